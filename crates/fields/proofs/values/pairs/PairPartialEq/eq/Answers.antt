@@ -1,0 +1,6 @@
+use mathlib.Core.Path.{ap}
+use Rattle.fields.proofs.Sames.{pair-same}
+use Rattle.fields.proofs.values.pairs.PairPartialEq.eq.Needs as need
+
+pub returns : need.returns
+returns c = (λ t. pair-same _ _ (c .same-bytes .ensures .0 t), λ e. c .same-bytes .ensures .1 (ap (λ v. v .bytes) e))

@@ -1,0 +1,17 @@
+-- The kinds of bytes that fields are made of.
+use mathlib.Core.Path.{_≡_}
+use Prim.Native.Nat.{ℕ, _≤_}
+
+abbrev pub Digit : ℕ → Type 0
+Digit c = (48 ≤ c) × (c ≤ 57)
+
+abbrev pub Space : ℕ → Type 0
+Space c = c ≡ 32
+
+-- A to Z
+abbrev pub Letter : ℕ → Type 0
+Letter c = (65 ≤ c) × (c ≤ 90)
+
+-- from the space, 0x20, to the tilde, 0x7E
+abbrev pub Printable : ℕ → Type 0
+Printable c = (32 ≤ c) × (c ≤ 126)

@@ -1,0 +1,10 @@
+pub mod Bytes
+pub mod Numerals
+pub mod Ranges
+pub mod Written
+pub mod Forms
+pub mod Fields
+pub mod Calls
+pub mod Tidy
+pub mod Laws
+pub mod Samples
