@@ -6,3 +6,4 @@ pub mod Wholes
 pub mod Puts
 pub mod Ranges
 pub mod Sames
+pub mod Tests

@@ -1,9 +1,10 @@
 -- Values of the same count or the same bytes are the same.
 use mathlib.Core.Path.{_≡_}
+use mathlib.Core.Bool.{true}
 use mathlib.Core.HLevel.{isProp→PathP}
 use Prim.Native.Nat.{ℕ}
 use denote.Struct.Props.{props}
-use Rattle.fields.specs.Forms.{Labelled, Paired, Timed}
+use Rattle.fields.specs.Forms.{labelled, paired, timed}
 use Rattle.fields.specs.Ranges.{PriceCount, AmountCount, QuantityCount, IntegerValue}
 use Rattle.fields.specs.declared.values.Price.{Price}
 use Rattle.fields.specs.declared.values.Amount.{Amount}
@@ -26,10 +27,10 @@ pub integer-same : (w : ℕ) (a b : Integer w) → a .value ≡ b .value → a �
 integer-same w a b e = λ i. record { value = e i; ok = isProp→PathP (λ j. IntegerValue w (e j)) (λ j. search props) (a .ok) (b .ok) i }
 
 pub label-same : (n : ℕ) (a b : Label n) → a .bytes ≡ b .bytes → a ≡ b
-label-same n a b e = λ i. record { bytes = e i; ok = isProp→PathP (λ j. Labelled n (e j)) (λ j. search props) (a .ok) (b .ok) i }
+label-same n a b e = λ i. record { bytes = e i; ok = isProp→PathP (λ j. labelled n (e j) ≡ true) (λ j. search props) (a .ok) (b .ok) i }
 
 pub pair-same : (a b : Pair) → a .bytes ≡ b .bytes → a ≡ b
-pair-same a b e = λ i. record { bytes = e i; ok = isProp→PathP (λ j. Paired (e j)) (λ j. search props) (a .ok) (b .ok) i }
+pair-same a b e = λ i. record { bytes = e i; ok = isProp→PathP (λ j. paired (e j) ≡ true) (λ j. search props) (a .ok) (b .ok) i }
 
 pub time-same : (a b : TimeOfDay) → a .bytes ≡ b .bytes → a ≡ b
-time-same a b e = λ i. record { bytes = e i; ok = isProp→PathP (λ j. Timed (e j)) (λ j. search props) (a .ok) (b .ok) i }
+time-same a b e = λ i. record { bytes = e i; ok = isProp→PathP (λ j. timed (e j) ≡ true) (λ j. search props) (a .ok) (b .ok) i }

@@ -1,6 +1,8 @@
 // The values of the fields. Each exists only within its range, so nothing that takes one checks it again.
+ghost use mathlib.Core.Bool.{true};
+ghost use mathlib.Core.Path.{_≡_};
 ghost use Rattle.fields.specs.Ranges.{PriceCount, AmountCount, QuantityCount, IntegerValue};
-ghost use Rattle.fields.specs.Forms.{Labelled, Paired, Timed};
+ghost use Rattle.fields.specs.Forms.{labelled, paired, timed};
 
 pub mod amounts;
 pub mod integers;
@@ -42,7 +44,7 @@ pub struct Integer<const W: usize> {
 #[derive(Clone, Copy, Debug)]
 pub struct Label<const N: usize> {
     bytes: [u8; N],
-    ghost ok: { Labelled N bytes },
+    ghost ok: { labelled N bytes ≡ true },
 }
 
 // The id of an order, equal only if all 15 bytes agree.
@@ -55,12 +57,12 @@ pub type Maker = Label<16>;
 #[derive(Clone, Copy, Debug)]
 pub struct Pair {
     bytes: [u8; 7],
-    ghost ok: { Paired bytes },
+    ghost ok: { paired bytes ≡ true },
 }
 
 // A time of day, HHMMSSmmm.
 #[derive(Clone, Copy, Debug)]
 pub struct TimeOfDay {
     bytes: [u8; 9],
-    ghost ok: { Timed bytes },
+    ghost ok: { timed bytes ≡ true },
 }
