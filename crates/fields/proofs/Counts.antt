@@ -19,7 +19,7 @@ use Rattle.std.proofs.shelf.Numerals.{Numerals, numerals-by-fold}
 use Rattle.fields.specs.Bytes.{Digit, Space}
 use Rattle.fields.specs.Numerals.{readOn, pointed, front, Decimal}
 use Rattle.fields.specs.Written.{decimals, written, padded}
-use Rattle.fields.proofs.Fronts.{pow10-le, spaces-rest}
+use Rattle.fields.proofs.Fronts.{pow10-le, spaces-rest, spaces-replicate}
 use Rattle.fields.proofs.Shapes.{Plain, Parted, decimal-shape, readOn-append}
 use Rattle.fields.proofs.Writes.{pow10-pos, top-digit}
 
@@ -85,16 +85,12 @@ written-reads k n w f =
       whole-digits = digits-decimal own q fq;
       whole-some = decimal-some q fq;
       part-digits = decimals-digits k r fr;
-      pad-spaces = all-spaces (w - length (written k n));
+      pad-spaces = spaces-replicate (w - length (written k n));
       part-few = length-decimals k r;
       count = sym (
           ap (λ x. x * 10 ^ (k - length (decimals k r))) (readOn-append 0 (decimal q) (decimals k r) ∙ ap (λ x. readOn x (decimals k r)) (value-decimal own q fq))
           ∙ scaled k r q fr ∙ div-add-mod' n (10 ^ k));
     }
-  where
-    all-spaces : (n : ℕ) → All Space (replicate n 32)
-    all-spaces zero = tt
-    all-spaces (suc n) = (refl, all-spaces n)
 
 length-pointed : (ds : List ℕ) → length (pointed ds) ≤ length ds + 1
 length-pointed [] = omega arith

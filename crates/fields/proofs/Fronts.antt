@@ -2,12 +2,12 @@
 use mathlib.Core.Path.{_≡_, refl, sym, ap, subst, _∙_}
 use mathlib.Core.Bool.{true, false, cond}
 use mathlib.Core.List.{List, [], _∷_, _++_}
-use Prim.Native.Nat.{ℕ, _+_, _-_, _*_, _^_, _≤_, _<_}
+use Prim.Native.Nat.{ℕ, suc, zero, _+_, _-_, _*_, _^_, _≤_, _<_}
 use native.Mathlib.Nat.{pow-suc, pow-le-pow-right, mul-le-mul-right}
 use lib.Pow.{pow-add}
 use native.Mathlib.Numerals.{add-one}
 use native.Mathlib.Omega.{arith}
-use lib.ListN.{length, getD, take, drop}
+use lib.ListN.{length, getD, take, drop, replicate}
 use Rattle.std.specs.shelf.Lists.{All}
 use Rattle.std.specs.Text.{asciiDigit}
 use Rattle.std.proofs.shelf.Tests.{cond-true, cond-false, cond-both}
@@ -72,3 +72,7 @@ scaled-room a i b j h e k =
     let s = pow-add 10 i j in
     let le : a * 10 ^ j ≤ 10 ^ i * 10 ^ j = mul-le-mul-right (10 ^ j) (omega arith) in
     omega (arith, ap (λ x. a * x) e)
+
+pub spaces-replicate : (n : ℕ) → All Space (replicate n 32)
+spaces-replicate zero = tt
+spaces-replicate (suc n) = (refl, spaces-replicate n)

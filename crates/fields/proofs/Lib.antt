@@ -7,3 +7,6 @@ pub mod Puts
 pub mod Ranges
 pub mod Sames
 pub mod Tests
+pub mod Tidies
+pub mod Codecs
+pub mod Examples

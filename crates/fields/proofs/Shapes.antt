@@ -116,6 +116,10 @@ pub decimal-some : (p : ℕ) (bs : List ℕ) (n : ℕ) → Decimal p bs n → 0 
 decimal-some p bs n h =
     omega (arith, h .whole-some, ap length (ap front (h .form) ∙ front-parts (h .whole) (h .part) (h .pad) (h .whole-digits) (h .pad-spaces)))
 
+-- spaces alone are no decimal
+pub blank-none : (p : ℕ) (bs : List ℕ) (n : ℕ) → All Space bs → Decimal p bs n → ⊥
+blank-none p bs n s d = let h = decimal-some p bs n d in omega (arith, ap length (front-spaces bs s))
+
 pub decimal-shape : (p : ℕ) (bs : List ℕ) (n : ℕ) → Decimal p bs n → Plain p bs n ⊎ Parted p bs n
 decimal-shape p bs n h =
     subst (λ l. Plain p l n ⊎ Parted p l n) (sym (h .form)) (shape-parts p n (h .whole) (h .part) (h .pad) (h .whole-digits) (h .part-digits) (h .part-few) (h .pad-spaces) (h .count))
