@@ -1,0 +1,4 @@
+pub mod Letters
+pub mod Layouts
+pub mod Faults
+pub mod Verdict
