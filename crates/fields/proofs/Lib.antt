@@ -7,6 +7,4 @@ pub mod Puts
 pub mod Ranges
 pub mod Sames
 pub mod Tests
-pub mod Tidies
 pub mod Codecs
-pub mod Examples

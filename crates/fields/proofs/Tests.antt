@@ -19,7 +19,7 @@ pub decides-between : (least most n : ℕ) → Decides (between least most n) ((
 decides-between least most n = (between-bounds least most n, λ h. between-in least most n (h .0) (h .1))
 
 -- the bytes below n at each place i lie between two bounds
-each-between : (least most n : ℕ) (at : ℕ → ℕ) → Decides (below (λ i. between least most (at i)) n) ((i : ℕ) → i < n → (least ≤ at i) × (at i ≤ most))
+pub each-between : (least most n : ℕ) (at : ℕ → ℕ) → Decides (below (λ i. between least most (at i)) n) ((i : ℕ) → i < n → (least ≤ at i) × (at i ≤ most))
 each-between least most n at =
     decides-below-and (λ i. between least most (at i)) (λ i. (least ≤ at i) × (at i ≤ most)) (below (λ i. between least most (at i)))
     (λ i. decides-between least most (at i)) refl (λ _. refl) n

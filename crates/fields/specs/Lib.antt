@@ -5,6 +5,4 @@ pub mod Written
 pub mod Forms
 pub mod Fields
 pub mod Calls
-pub mod Tidy
 pub mod Laws
-pub mod Samples

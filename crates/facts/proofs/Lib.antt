@@ -1,0 +1,3 @@
+mod Tidies
+mod FieldExamples
+mod PacketExamples

@@ -1,0 +1,4 @@
+pub mod Tidy
+pub mod FieldSamples
+pub mod PacketSamples
+pub mod Facts
