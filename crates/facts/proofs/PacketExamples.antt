@@ -44,12 +44,16 @@ unknown c f l e = false≢true (sym f ∙ ap known e ∙ known-code l)
 digit-field : (w gap d : ℕ) → w ≡ gap + 1 → w ≤ 18 → 48 ≤ d → d ≤ 57 → IntegerField w (replicate gap 32 ++ d ∷ []) (0 * 10 + (d - 48))
 digit-field w gap d e m a b =
     let long : length (replicate gap 32 ++ d ∷ []) ≡ w = length-append (replicate gap 32) (d ∷ []) ∙ omega (arith, length-replicate {A = ℕ} gap 32) in
-    let ten : 10 ^ 1 ≤ 10 ^ w = pow10-le 1 w (omega arith) in
-    (
+    let ten : 10 ^ 1 ≤ 10 ^ w = pow10-le 1 w (omega arith) in (
       long,
       record {
-        gap = replicate gap 32; figures = d ∷ []; form = refl; gap-spaces = spaces-replicate gap;
-        figures-digits = ((a, b), tt); figures-some = omega arith; count = refl;
+        gap = replicate gap 32;
+        figures = d ∷ [];
+        form = refl;
+        gap-spaces = spaces-replicate gap;
+        figures-digits = ((a, b), tt);
+        figures-some = omega arith;
+        count = refl;
       },
       (omega arith, m, omega arith),
     )
@@ -58,18 +62,30 @@ pub packet-samples : PacketSamples
 unfolding paired known
 packet-samples = record {
   login =
-    let f = digit-field 10 9 49 refl (lit≤ tt) (lit≤ tt) (lit≤ tt) in
-    (LoginAccepted (record { value = 1; ok = f .2 }), record { fits = lit≤ tt; printable = printable (codes "A         1") refl; letter = refl; row = (refl, f) });
+      let f = digit-field 10 9 49 refl (lit≤ tt) (lit≤ tt) (lit≤ tt) in
+      (LoginAccepted (record { value = 1; ok = f .2 }), record { fits = lit≤ tt; printable = printable (codes "A         1") refl; letter = refl; row = (refl, f) });
   short-login = (lit≤ tt, printable (codes "A        1") refl, (accepted, refl, λ e. omega arith));
   end = record { fits = lit≤ tt; printable = printable (codes "S") refl; letter = refl; row = refl };
   heartbeat = record { fits = lit≤ tt; printable = printable (codes "H") refl; letter = refl; row = refl };
   nothing = (lit≤ tt, printable [] refl, unknown 0 refl);
   no-letter = (lit≤ tt, printable (codes "Q") refl, unknown 81 refl);
   bad-pair =
-    let bs = codes "R   2EUR/USDusd/JPY" in
-    (lit≤ tt, printable bs refl,
-      (directory, refl,
-        inr (2, 1, refl, digit-field 4 3 50 refl (lit≤ tt) (lit≤ tt) (lit≤ tt), refl, lit< tt,
-          λ h. false≢true (paired-decides (field 12 7 bs) .1 h),
-          λ j l. let e : 0 ≡ j = omega arith in subst (λ k. Paired (field (5 + 7 * k) 7 bs)) e (paired-decides (field 5 7 bs) .0 refl))));
+      let bs = codes "R   2EUR/USDusd/JPY" in (
+        lit≤ tt,
+        printable bs refl,
+        (
+          directory,
+          refl,
+          inr (
+            2,
+            1,
+            refl,
+            digit-field 4 3 50 refl (lit≤ tt) (lit≤ tt) (lit≤ tt),
+            refl,
+            lit< tt,
+            λ h. false≢true (paired-decides (field 12 7 bs) .1 h),
+            λ j l. let e : 0 ≡ j = omega arith in subst (λ k. Paired (field (5 + 7 * k) 7 bs)) e (paired-decides (field 5 7 bs) .0 refl),
+          ),
+        ),
+      );
 }

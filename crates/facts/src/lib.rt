@@ -5,11 +5,9 @@ ghost use Rattle.facts.specs.Tidy.{TidyLaws};
 // The examples hold.
 pub fn facts_hold()
     ensures { λ _. ⌜ Facts ⌝ }
-{
-}
+{}
 
 // Decimals are written without needless zeros, and nothing else is so written.
 pub fn tidy_holds()
     ensures { λ _. ⌜ TidyLaws ⌝ }
-{
-}
+{}

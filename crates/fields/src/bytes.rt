@@ -33,10 +33,10 @@ pub(crate) fn same_bytes(a: &[u8], b: &[u8]) -> bool
     a == b
 }
 
-pub(crate) fn same_count(a: u64, b: u64) -> bool
-    ensures { λ r. ⌜ Decides r (a ≡ b) ⌝ }
+pub(crate) fn same_count(count: u64, other: u64) -> bool
+    ensures { λ r. ⌜ Decides r (count ≡ other) ⌝ }
 {
-    a == b
+    count == other
 }
 
 // Where a field of `width` bytes ends that begins at `at` of a buffer of `len` bytes.

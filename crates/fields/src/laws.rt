@@ -4,5 +4,4 @@ ghost use Rattle.fields.specs.Laws.{FieldLaws};
 // Bytes are one value's field at most, and what is written is read back as the value, for every field.
 pub fn fields_hold()
     ensures { λ _. ⌜ FieldLaws ⌝ }
-{
-}
+{}

@@ -25,6 +25,7 @@ front i c m P ps K l e h k =
 pub packet-ends : (i c m : ℕ) (P ps K : List ℕ) → (c ≤ 49152 → length P ≡ c) → m ≡ c + (i + 1)
     → K ≡ take 49152 (P ++ take (i + 1) ps) → whole m (take (m - 1) K) ≡ whole (c + (i + 1)) (P ++ take i ps)
 packet-ends i c m P ps K l e k =
-    elim (cases-bool (leb m 49152))
-    [ inl t ↦ let h : m ≤ 49152 = omega (arith, leb-true) in rw (← e) (ap (λ x. whole m x) (front i c m P ps K (l (omega arith)) e h k))
-    | inr f ↦ rw (← e) (simp f) ]
+    elim (cases-bool (leb m 49152)) [
+      | inl t ↦ let h : m ≤ 49152 = omega (arith, leb-true) in rw (← e) (ap (λ x. whole m x) (front i c m P ps K (l (omega arith)) e h k))
+      | inr f ↦ rw (← e) (simp f)
+    ]

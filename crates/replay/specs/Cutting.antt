@@ -66,4 +66,3 @@ pub record TakesLine (s : Cutter) (piece : List ℕ) (r : Cut) (t : Cutter) : Ty
 abbrev pub Takes : Cutter → List ℕ → Answer → Cutter → Type 0
 Takes s piece More t = TakesAll s piece t
 Takes s piece (Ended r) t = TakesLine s piece r t
-

@@ -58,7 +58,11 @@ pub impl fmt::Display for Report as ReportDisplay {
 fn message_letter(body: &[u8]) -> char
     ensures { λ r. ⌜ r ≡ getD (now (body .entry)) 10 0 ⌝ }
 {
-    if body.len() > 10 { body[10] as char } else { '\0' }
+    if body.len() > 10 {
+        body[10] as char
+    } else {
+        '\0'
+    }
 }
 
 // The event of a packet in form.

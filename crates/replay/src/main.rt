@@ -17,6 +17,8 @@ use std::io::BufWriter;
 use std::io::Read;
 use std::io::Write;
 
+const USAGE: &str = "usage: replay [FILE]";
+
 // How many packets were reported, and how many of them as faults.
 #[derive(Drop)]
 struct Tally {
@@ -36,7 +38,12 @@ fn log<W: Write>(tally: &mut Tally, place: usize, cutter: &Cutter, out: &mut W) 
 }
 
 // Hands a piece to the cutter, and reports each packet that ends in it.
-fn feed<W: Write>(tally: &mut Tally, cutter: &mut Cutter, piece: &[u8], out: &mut W) -> Result<(), AnyError> {
+fn feed<W: Write>(
+    tally: &mut Tally,
+    cutter: &mut Cutter,
+    piece: &[u8],
+    out: &mut W,
+) -> Result<(), AnyError> {
     let mut at = 0;
     while at < piece.len() {
         let Ok(answer) = cutter.take(&piece[at..]) else {
@@ -64,7 +71,10 @@ fn close<W: Write>(tally: &Tally, cutter: &Cutter, out: &mut W) -> io::Result<()
 }
 
 fn replay<R: Read, W: Write>(input: &mut R, out: &mut W) -> Result<(), AnyError> {
-    let mut tally = Tally { packets: 0, faults: 0 };
+    let mut tally = Tally {
+        packets: 0,
+        faults: 0,
+    };
     let mut cutter = Cutter::new();
     let mut piece = [0; 65536];
     for _ in 0..u64::MAX {
@@ -78,19 +88,26 @@ fn replay<R: Read, W: Write>(input: &mut R, out: &mut W) -> Result<(), AnyError>
     Ok(())
 }
 
+fn replay_file<W: Write>(rt: &LibcRuntime, path: &str, out: &mut W) -> Result<(), AnyError> {
+    if path.starts_with('-') {
+        return Err(USAGE.into());
+    }
+    match File::open(rt, path) {
+        Ok(mut input) => replay(&mut input, out),
+        Err(e) => Err(format!(rt.alloc(), "cannot open {path}: {e}")?.into()),
+    }
+}
+
 fn run(rt: &LibcRuntime) -> Result<(), AnyError> {
     let mut args = env::args(rt)?;
     let _program = args.next();
     let file = args.next();
     if args.next().is_some() {
-        return Err("usage: replay [FILE]".into());
+        return Err(USAGE.into());
     }
     let mut out = BufWriter::new(rt.stdout());
     match file {
-        Some(path) => {
-            let mut input = File::open(rt, path.as_str())?;
-            replay(&mut input, &mut out)
-        }
+        Some(path) => replay_file(rt, path.as_str(), &mut out),
         None => replay(&mut rt.stdin(), &mut out),
     }
 }

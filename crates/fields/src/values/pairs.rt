@@ -75,6 +75,6 @@ pub impl Ord for Pair as PairOrd {
     ghost orders = { λ a b. Lex (λ x y o. Ranked o (x < y) (x ≡ y) (y < x)) (a .bytes) (b .bytes) };
 
     fn cmp(&self, other: &Pair) -> Ordering {
-        self.bytes.cmp(&other.bytes)
+        Ord::cmp(&self.bytes, &other.bytes)
     }
 }

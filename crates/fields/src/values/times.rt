@@ -60,13 +60,6 @@ impl TimeOfDay {
     {
         bytes::put(out, at, &self.bytes)
     }
-
-    // Its bytes.
-    pub fn bytes(&self) -> [u8; 9]
-        ensures { λ r. ⌜ r ≡ now (self .entry) .bytes ⌝ }
-    {
-        self.bytes
-    }
 }
 
 pub impl PartialEq<TimeOfDay> for TimeOfDay as TimeOfDayPartialEq {
