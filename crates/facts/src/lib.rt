@@ -11,3 +11,6 @@ pub fn facts_hold()
 pub fn tidy_holds()
     ensures { λ _. ⌜ TidyLaws ⌝ }
 {}
+
+#[cfg(test)]
+mod tests;
