@@ -1,0 +1,4 @@
+pub mod Bytes
+pub mod Orderly
+pub mod Ladders
+pub mod Lookups

@@ -1,0 +1,4 @@
+pub mod Sides
+pub mod Ladder
+pub mod Calls
+pub mod Laws

@@ -1,0 +1,17 @@
+// The book of standing orders, a part that knows nothing of packets.
+mod compare;
+mod ladder;
+pub mod laws;
+mod order;
+mod row;
+
+pub use ladder::Book;
+pub use ladder::BookFault;
+pub use ladder::BookFaultDebug;
+pub use ladder::BookFaultPartialEq;
+pub use ladder::MadeBook;
+pub use order::Order;
+pub use order::Side;
+pub use order::SideDebug;
+pub use order::SidePartialEq;
+pub use order::Terms;
