@@ -2,3 +2,4 @@ pub mod Bytes
 pub mod Orderly
 pub mod Ladders
 pub mod Lookups
+pub mod Packing

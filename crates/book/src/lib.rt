@@ -4,6 +4,7 @@ mod ladder;
 pub mod laws;
 mod order;
 mod row;
+mod rows;
 
 pub use ladder::Book;
 pub use ladder::BookFault;
