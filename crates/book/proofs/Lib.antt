@@ -3,3 +3,4 @@ pub mod Orderly
 pub mod Ladders
 pub mod Lookups
 pub mod Packing
+pub mod Taking

@@ -5,6 +5,7 @@ pub mod laws;
 mod order;
 mod row;
 mod rows;
+mod search;
 
 pub use ladder::Book;
 pub use ladder::BookFault;

@@ -66,6 +66,7 @@ pub(crate) trait RowTest<R> {
 }
 
 // The rows of a pair.
+#[derive(Drop)]
 pub(crate) struct OfPair {
     pub(crate) pair: Pair,
 }
@@ -79,6 +80,7 @@ pub(crate) impl<R> RowTest<R> for OfPair as OfPairTest {
 }
 
 // The row of a pair and id.
+#[derive(Drop)]
 pub(crate) struct Named {
     pub(crate) pair: Pair,
     pub(crate) id: OrderId,
@@ -93,6 +95,7 @@ pub(crate) impl<R> RowTest<R> for Named as NamedTest {
 }
 
 // The rows at a pair, side and price.
+#[derive(Drop)]
 pub(crate) struct AtLevel {
     pub(crate) pair: Pair,
     pub(crate) side: Side,
@@ -111,6 +114,7 @@ pub(crate) impl<R> RowTest<R> for AtLevel as AtLevelTest {
 }
 
 // The rows that an order stands in front of when it is placed.
+#[derive(Drop)]
 pub(crate) struct Behind<T> {
     pub(crate) order: Order<T>,
 }
