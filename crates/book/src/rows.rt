@@ -40,7 +40,14 @@ pub(crate) fn order_of<T: Terms>(row: &Row<T::Row>) -> Option<Order<T>>
     let price = Price::from_count(row.price)?;
     let amount = Amount::from_count(row.amount)?;
     let terms = T::from_row(row.terms);
-    Some(Order { pair, side: row.side, id, price, amount, terms })
+    Some(Order {
+        pair,
+        side: row.side,
+        id,
+        price,
+        amount,
+        terms,
+    })
 }
 
 // The row with another amount and other terms.
@@ -125,7 +132,12 @@ pub(crate) impl<R, T> RowTest<R> for Behind<T> as BehindTest {
     fn passes(&self, row: &Row<R>) -> bool {
         let pair = self.order.pair.bytes();
         if compare::same(&row.pair, &pair) {
-            !compare::is_leading(row.side, row.price, self.order.side, self.order.price.count())
+            !compare::is_leading(
+                row.side,
+                row.price,
+                self.order.side,
+                self.order.price.count(),
+            )
         } else {
             !compare::byte_before(&row.pair, &pair)
         }

@@ -15,8 +15,8 @@ loop-at-again g c =
     let v = c .loop-at .rows in
     let within : c .loop-at .at < length (vec-items v) = omega (arith, c .loop-at .inv .0 .long, was .ok .0, c .len-at-end .ensures) in
     elim (c .if-not-passes .came) [
-      then-not-passes w ↦ stays off (vec-items was) (vec-cap was) v (c .if-not-passes .rows) (c .loop-at .end) (c .if-not-passes .end) (c .loop-at .at) (c .index .result .now) (c .loop-at .inv) within (c .index .ensures) (sym (w .if-not-passes .ensures tt)) (w .rows-is) (w .end-is)
-    | else-not-passes w ↦ goes off (vec-items was) (vec-cap was) v (c .if-not-passes .rows) (c .loop-at .end) (c .if-not-passes .end) (c .loop-at .at) (c .index .result .now) (c .loop-at .inv) within (c .index .ensures) (sym (w .if-not-passes .ensures tt)) (w .rows-is) (w .end-is)
+      | then-not-passes w ↦ stays off (vec-items was) (vec-cap was) v (c .if-not-passes .rows) (c .loop-at .end) (c .if-not-passes .end) (c .loop-at .at) (c .index .result .now) (c .loop-at .inv) within (c .index .ensures) (sym (w .if-not-passes .ensures tt)) (w .rows-is) (w .end-is)
+      | else-not-passes w ↦ goes off (vec-items was) (vec-cap was) v (c .if-not-passes .rows) (c .loop-at .end) (c .if-not-passes .end) (c .loop-at .at) (c .index .result .now) (c .loop-at .inv) within (c .index .ensures) (sym (w .if-not-passes .ensures tt)) (w .rows-is) (w .end-is)
     ]
 
 pub returns : need.returns
