@@ -79,6 +79,6 @@ pub trait Book<T: Terms> {
 // A book that is made from a storage.
 pub trait MadeBook<T: Terms>: Book<T> + Sized {
     // An empty book of `slots` slots, or 512 if `slots` is more. No later call allocates.
-    fn make(heap: Global, slots: usize) -> Result<Self, AllocError>
+    fn new(heap: Global, slots: usize) -> Result<Self, AllocError>
         ensures { λ r. ⌜ Makes (Self·Book .capacity) (Self·Book .ladder) slots r ⌝ };
 }

@@ -8,6 +8,7 @@ ghost use Rattle.book.specs.Ladder.{inOrder, apart};
 ghost use Rattle.book.specs.Rows.{allFormed, orders};
 use crate::ladder::Book;
 use crate::ladder::BookFault;
+use crate::ladder::MadeBook;
 use crate::order::Order;
 use crate::order::Side;
 use crate::order::Terms;
@@ -24,6 +25,8 @@ use fields::Amount;
 use fields::OrderId;
 use fields::Pair;
 use fields::Price;
+use std::alloc::AllocError;
+use std::alloc::Global;
 
 // The first `slots` places of the rows' memory are the book's slots. The last three facts say that the rows are those of
 // a ladder.
@@ -119,5 +122,13 @@ pub impl<T: Terms> Book<T> for PackedBook<T> as PackedBookBook {
 
     fn rank_at(&self, pair: Pair, side: Side, price: Price) -> Option<usize> {
         search::first(&self.rows, &AtLevel { pair, side, price })
+    }
+}
+
+pub impl<T: Terms> MadeBook<T> for PackedBook<T> as PackedBookMade {
+    fn new(heap: Global, slots: usize) -> Result<PackedBook<T>, AllocError> {
+        let slots = slots.min(512);
+        let rows = Vec::with_capacity(heap, slots)?;
+        Ok(PackedBook { rows, slots })
     }
 }
