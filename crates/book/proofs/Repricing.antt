@@ -20,7 +20,7 @@ use Rattle.book.specs.declared.ladder.BookFault.{BookFault}
 use Rattle.book.specs.declared.order.Order.{Order}
 use Rattle.book.proofs.Orderly.{named-one}
 use Rattle.book.proofs.Ladders.{finds-stands, without-gone, without-shorter}
-use Rattle.book.proofs.Lookups.{lookup-stands, lookup-rank}
+use Rattle.book.proofs.Lookups.{lookup-stands, lookup-placed}
 
 module _ {T : Type 0} where
   pub lookup-none : (p : Pair) (i : OrderId) (l : List (Order T)) → stands p i l ≡ false → lookup p i l ≡ None
@@ -54,3 +54,15 @@ module _ {T : Type 0} where
   -- a refusal of remove, handed on
   pub not-removed : (l : List (Order T)) (p : Pair) (i : OrderId) (c : Price) (r : Result (Unit {0}) BookFault) (y e : BookFault) (l′ : List (Order T)) → r ≡ Err y → y ≡ e → Remove l p i (Err e) l′ → Reprice l p i c r l′
   not-removed l p i c r y e l′ a b h = subst (λ z. Reprice l p i c z l′) (sym (a ∙ ap Err b)) (h .0, lookup-none p i l (h .1), h .2)
+
+  named-repriced : (p : Pair) (i : OrderId) (c : Price) (x : Order T) → named p i (repriced c x) ≡ named p i x
+  unfolding named
+  named-repriced p i c x = refl
+
+  -- an order that is placed again is found again
+  pub lookup-repriced : (p : Pair) (i : OrderId) (c : Price) (x : Order T) (l : List (Order T)) → lookup p i l ≡ Some x → lookup p i (placed (repriced c x) (without p i l)) ≡ Some (repriced c x)
+  lookup-repriced p i c x l found =
+      let n = lookup-named p i l x found in
+      let one = named-one p i x n in
+      let free : stands (x .pair) (x .id) (without p i l) ≡ false = ap₂ (λ q j. stands q j (without p i l)) (one .0) (one .1) ∙ without-gone p i l in
+      lookup-placed p i (repriced c x) (without p i l) free ∙ ap (λ b. cond b (Some (repriced c x)) (lookup p i (without p i l))) (named-repriced p i c x ∙ n)
