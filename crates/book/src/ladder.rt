@@ -5,7 +5,7 @@ ghost use mathlib.Core.List.{List};
 ghost use Prim.Native.Nat.{ℕ, _≤_};
 ghost use lib.ListN.{length};
 ghost use Rattle.book.specs.Ladder.{inOrder, apart, named, at-level, at-rank, cleared};
-ghost use Rattle.book.specs.Calls.{Place, Amend, Remove, Finds, Makes};
+ghost use Rattle.book.specs.Calls.{number, Place, Amend, Remove, Finds, Makes};
 ghost use Rattle.book.specs.declared.order.Order.{Order};
 use crate::order::Order;
 use crate::order::Side;
@@ -26,6 +26,19 @@ pub enum BookFault {
     Standing,
     // The ladder is as long as the capacity.
     Full,
+}
+
+impl BookFault {
+    // The number of the refusal.
+    pub fn number(&self) -> u8
+        ensures { λ r. ⌜ r ≡ number (now (self .entry)) ⌝ }
+    {
+        match self {
+            BookFault::NotStanding => 31,
+            BookFault::Standing => 32,
+            BookFault::Full => 33,
+        }
+    }
 }
 
 pub trait Book<T: Terms> {

@@ -17,7 +17,11 @@ use std::alloc::AllocError;
 use std::alloc::Global;
 
 // A new book with one order in it, if it has a slot.
-pub fn opened<T: Terms, B: MadeBook<T> + Drop>(heap: Global, slots: usize, order: &Order<T>) -> Result<B, AllocError>
+pub fn opened<T: Terms, B: MadeBook<T> + Drop>(
+    heap: Global,
+    slots: usize,
+    order: &Order<T>,
+) -> Result<B, AllocError>
     ensures capacity { λ r. ⌜ made r (λ b. B·Book .capacity b ≡ min slots 512) ⌝ }
     ensures ladder { λ r. ⌜ made r (λ b. 0 < slots → B·Book .ladder b ≡ now (order .entry) ∷ []) ⌝ }
 {
@@ -27,7 +31,12 @@ pub fn opened<T: Terms, B: MadeBook<T> + Drop>(heap: Global, slots: usize, order
 }
 
 // Gives an order another price, and tells its rank then.
-pub fn requote<T: Terms, B: Book<T>>(book: &mut B, pair: Pair, id: OrderId, price: Price) -> Result<usize, BookFault>
+pub fn requote<T: Terms, B: Book<T>>(
+    book: &mut B,
+    pair: Pair,
+    id: OrderId,
+    price: Price,
+) -> Result<usize, BookFault>
     ensures requote { λ r. ⌜ Requote (B·Book .ladder (now (book .entry))) pair id price r (B·Book .ladder (now (book .exit))) ⌝ }
     ensures kept { λ _. ⌜ B·Book .capacity (now (book .exit)) ≡ B·Book .capacity (now (book .entry)) ⌝ }
 {
