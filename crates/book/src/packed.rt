@@ -42,10 +42,10 @@ pub struct PackedBook<T: Terms> {
     ghost distinct: { apart (orders (λ t. t) (vec-items rows) formed) ≡ true },
 }
 
-fn is_full(len: usize, slots: usize) -> bool
-    ensures { λ r. ⌜ r ≡ leb slots len ⌝ }
+fn is_full(len: usize, capacity: usize) -> bool
+    ensures { λ r. ⌜ r ≡ leb capacity len ⌝ }
 {
-    len >= slots
+    len >= capacity
 }
 
 pub impl<T: Terms> Book<T> for PackedBook<T> as PackedBookBook {
@@ -63,7 +63,7 @@ pub impl<T: Terms> Book<T> for PackedBook<T> as PackedBookBook {
         ).is_some() {
             return Err(BookFault::Standing);
         }
-        if is_full(self.rows.len(), self.slots) {
+        if is_full(self.len(), self.capacity()) {
             return Err(BookFault::Full);
         }
         let at = search::place_for(&self.rows, order);
@@ -92,16 +92,16 @@ pub impl<T: Terms> Book<T> for PackedBook<T> as PackedBookBook {
         let Some(k) = search::first(&self.rows, &Named { pair, id }) else {
             return Err(BookFault::NotStanding);
         };
-        let _ = self.rows.remove(k);
+        search::take_out(&mut self.rows, k);
         Ok(())
     }
 
     fn clear(&mut self, pair: Pair) {
-        search::take_off(&mut self.rows, &OfPair { pair });
+        search::take_off(&mut self.rows, &OfPair(pair));
     }
 
     fn len(&self) -> usize {
-        self.rows.len()
+        search::count(&self.rows)
     }
 
     fn capacity(&self) -> usize {
@@ -109,10 +109,9 @@ pub impl<T: Terms> Book<T> for PackedBook<T> as PackedBookBook {
     }
 
     fn at(&self, rank: usize) -> Option<Order<T>> {
-        if rank < self.rows.len() {
-            rows::order_of(&self.rows[rank])
-        } else {
-            None
+        match search::row_at(&self.rows, rank) {
+            Some(row) => rows::order_of(&row),
+            None => None,
         }
     }
 

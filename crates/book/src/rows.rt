@@ -72,17 +72,21 @@ pub(crate) trait RowTest<R> {
         ensures { λ r. ⌜ r ≡ holds (now (self .entry)) (now (row .entry)) ⌝ };
 }
 
-// The rows of a pair.
-#[derive(Drop)]
-pub(crate) struct OfPair {
-    pub(crate) pair: Pair,
+fn is_of<R>(row: &Row<R>, pair: &Pair) -> bool
+    ensures { λ r. ⌜ r ≡ rowOf (now (pair .entry)) (now (row .entry)) ⌝ }
+{
+    compare::same(&row.pair, &pair.bytes())
 }
 
+// The rows of a pair.
+#[derive(Drop)]
+pub(crate) struct OfPair(pub(crate) Pair);
+
 pub(crate) impl<R> RowTest<R> for OfPair as OfPairTest {
-    ghost holds = { λ t x. rowOf (t .pair) x };
+    ghost holds = { λ t x. rowOf (t .0) x };
 
     fn passes(&self, row: &Row<R>) -> bool {
-        compare::same(&row.pair, &self.pair.bytes())
+        is_of(row, &self.0)
     }
 }
 
@@ -97,7 +101,7 @@ pub(crate) impl<R> RowTest<R> for Named as NamedTest {
     ghost holds = { λ t x. rowNamed (t .pair) (t .id) x };
 
     fn passes(&self, row: &Row<R>) -> bool {
-        compare::same(&row.pair, &self.pair.bytes()) && compare::same(&row.id, &self.id.bytes())
+        is_of(row, &self.pair) && compare::same(&row.id, &self.id.bytes())
     }
 }
 
@@ -113,7 +117,7 @@ pub(crate) impl<R> RowTest<R> for AtLevel as AtLevelTest {
     ghost holds = { λ t x. rowAtLevel (t .pair) (t .side) (t .price) x };
 
     fn passes(&self, row: &Row<R>) -> bool {
-        if !compare::same(&row.pair, &self.pair.bytes()) {
+        if !is_of(row, &self.pair) {
             return false;
         }
         compare::same_side(row.side, self.side) && row.price == self.price.count()
