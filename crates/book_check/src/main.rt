@@ -1,5 +1,7 @@
 // Packed books worked through fixed lists of calls: each line is a call's answer and the ladder after it.
 ghost use mathlib.Core.Path.{_≡_};
+ghost use Prim.Native.Nat.{min};
+ghost use Rattle.std.specs.Vec.{made};
 use book::Book;
 use book::BookFault;
 use book::MadeBook;
@@ -14,6 +16,8 @@ use fields::OrderId;
 use fields::Pair;
 use fields::Price;
 use quotes::requote;
+use std::alloc::AllocError;
+use std::alloc::Global;
 use std::error::AnyError;
 
 // Terms of one letter.
@@ -226,8 +230,16 @@ fn move_to(
     }
 }
 
+// What a book of this kind and these terms tells of itself when it is made.
+fn capacity_of(heap: Global, slots: usize) -> Result<usize, AllocError>
+    ensures { λ r. ⌜ made r (λ n. n ≡ min slots 512) ⌝ }
+{
+    let book = PackedBook::<Mark>::new(heap, slots)?;
+    Ok(book.capacity())
+}
+
 fn print_made(rt: &LibcRuntime, slots: usize, book: &PackedBook<Mark>) -> Result<(), AnyError> {
-    let capacity = book.capacity();
+    let capacity = capacity_of(rt.alloc(), slots)?;
     let len = book.len();
     println!(rt, "slots {slots} capacity {capacity} length {len}")?;
     Ok(())
