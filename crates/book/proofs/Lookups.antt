@@ -2,25 +2,23 @@
 use Prim.Native.Nat.{ℕ, _≤_, _<_, _+_, suc, zero}
 use mathlib.Core.Path.{_≡_, refl, sym, ap, ap₂, _∙_}
 use mathlib.Core.Bool.{Bool, true, false, cond, _&&_, _||_, not}
-use mathlib.Core.List.{List, [], _∷_, _++_}
+use mathlib.Core.List.{List, [], _∷_}
 use mathlib.Core.Logic.{⊎-elim}
 use native.Mathlib.Omega.{arith}
 use lib.ListN.{length, getD}
 use Rattle.std.specs.shelf.Lawful.{all-pass}
-use Rattle.std.specs.shelf.Lists.{All}
 use Rattle.std.specs.shelf.Text.{sameBytes}
 use Rattle.std.specs.Options.{isSome, mapped}
 use Rattle.std.specs.declared.option.Option.{Option}
 use Rattle.std.specs.declared.option.Option.the-variants.{Some, None}
-use Rattle.std.proofs.shelf.Tests.{both-ways, and-parts, and-from, not-true}
+use Rattle.std.proofs.shelf.Tests.{both-ways, and-parts, not-true}
 use Rattle.std.proofs.shelf.Ways.{tells}
 use Rattle.fields.specs.declared.values.Pair.{Pair}
 use Rattle.fields.specs.declared.values.Amount.{Amount}
-use Rattle.fields.proofs.Sames.{pair-same, label-same}
-use Rattle.book.specs.Ladder.{OrderId, samePair, ahead, named, at-level, inOrder, apart, stands, lookup, placed, without, at-rank, reset, amended, cleared}
+use Rattle.book.specs.Ladder.{OrderId, samePair, ahead, named, inOrder, apart, stands, lookup, placed, without, at-rank, reset, amended, cleared}
 use Rattle.book.specs.Calls.{PlaceRefused}
 use Rattle.book.specs.declared.order.Order.{Order}
-use Rattle.book.proofs.Orderly.{split, bytes-same, same-bytes, named-both, named-one}
+use Rattle.book.proofs.Orderly.{split, named-both, named-one}
 use Rattle.book.proofs.Ladders.{without-none, stands-none-named, named-reset}
 
 module _ {T : Type 0} where

@@ -4,12 +4,11 @@ use mathlib.Core.Path.{_≡_, sym, ap, _∙_}
 use mathlib.Core.Bool.{true}
 use mathlib.Core.List.{List}
 use native.Mathlib.Omega.{arith}
-use Rattle.std.specs.declared.option.Option.{Option}
 use Rattle.std.specs.declared.option.Option.the-variants.{Some, None}
 use Rattle.std.specs.declared.result.Result.the-variants.{Ok}
 use Rattle.fields.specs.declared.values.Pair.{Pair}
 use Rattle.fields.specs.declared.values.Price.{Price}
-use Rattle.book.specs.Ladder.{OrderId, apart, named, lookup, at-rank, placed, without}
+use Rattle.book.specs.Ladder.{OrderId, apart, named, lookup}
 use Rattle.book.specs.Calls.{Finds}
 use Rattle.book.specs.declared.order.Order.{Order}
 use Rattle.book.proofs.Ladders.{finds-stands}

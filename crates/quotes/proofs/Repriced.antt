@@ -1,5 +1,5 @@
 -- The repricing of an order, from what the book's calls answer.
-use Prim.Native.Nat.{ℕ, _≤_, _<_}
+use Prim.Native.Nat.{ℕ, _≤_}
 use mathlib.Core.Path.{_≡_, refl, sym, ap, ap₂, subst, _∙_}
 use mathlib.Core.Bool.{false, cond}
 use mathlib.Core.List.{List}

@@ -1,5 +1,5 @@
 use Prim.Native.Nat.{_≤_}
-use mathlib.Core.Path.{_≡_, sym, subst, _∙_}
+use mathlib.Core.Path.{sym, subst, _∙_}
 use lib.ListN.{length}
 use Rattle.std.proofs.shelf.Results.{err-from-errBy}
 use Rattle.book.specs.Calls.{Place}
