@@ -1,25 +1,21 @@
 -- What placing and removing do to a ladder that is in order and has no id twice.
-use Prim.Native.Nat.{ℕ, _≤_, _<_, _+_, suc, zero}
-use mathlib.Core.Path.{_≡_, refl, sym, ap, ap₂, subst, _∙_}
+use Prim.Native.Nat.{ℕ, _≤_, _<_, suc, zero}
+use mathlib.Core.Path.{_≡_, refl, sym, ap, ap₂, _∙_}
 use mathlib.Core.Bool.{Bool, true, false, cond, _&&_, _||_, not}
 use mathlib.Core.List.{List, [], _∷_, _++_, append-assoc, append-nil}
-use mathlib.Core.Logic.{_⊎_, inl, inr, ⊎-elim}
+use mathlib.Core.Logic.{_⊎_, ⊎-elim}
 use native.Mathlib.Omega.{arith}
-use lib.ListN.{length, getD, take, drop}
+use lib.ListN.{length, getD}
 use Rattle.std.specs.shelf.Lawful.{all-pass}
 use Rattle.std.specs.shelf.Lists.{All}
-use Rattle.std.proofs.shelf.Tests.{both-ways, and-parts, and-from, not-true}
+use Rattle.std.proofs.shelf.Tests.{both-ways, and-parts, and-from}
 use Rattle.std.proofs.shelf.Ways.{tells}
-use Rattle.book.specs.Ladder.{OrderId, Ladder, samePair, ahead, named, at-level, inOrder, apart, stands, lookup, placed, without, placed-all, at-rank, reset, amended, cleared, Placed}
-use Rattle.book.specs.Calls.{Finds, Remove, Place, number}
-use Rattle.book.specs.declared.ladder.BookFault.{BookFault}
+use Rattle.book.specs.Ladder.{OrderId, ahead, named, at-level, inOrder, apart, stands, placed, without, placed-all, at-rank, reset, amended, Placed}
+use Rattle.book.specs.Calls.{Finds}
 use Rattle.std.specs.shelf.Text.{sameBytes}
-use Rattle.std.specs.Holes.{removed}
 use Rattle.std.specs.Options.{isSome}
 use Rattle.std.specs.declared.option.Option.{Option}
 use Rattle.std.specs.declared.option.Option.the-variants.{Some, None}
-use Rattle.std.specs.declared.result.Result.{Result}
-use Rattle.std.specs.declared.result.Result.the-variants.{Ok, Err}
 use Rattle.fields.specs.declared.values.Pair.{Pair}
 use Rattle.fields.specs.declared.values.Amount.{Amount}
 use Rattle.book.specs.declared.order.Order.{Order}
@@ -107,7 +103,7 @@ module _ {T : Type 0} where
       let e : (a ++ (o ∷ [])) ++ b ≡ a ++ (o ∷ b) = append-assoc a (o ∷ []) b in
       ap (λ z. placed-all z b) p ∙ placed-all-from (a ++ (o ∷ [])) b (ap inOrder e ∙ h) ∙ e
 
-  -- a snapshot of a ladder, placed order by order from nothing, gives the ladder back
+  -- a ladder's own orders, placed in order from nothing, give the ladder back
   pub placed-all-own : (l : List (Order T)) → inOrder l ≡ true → placed-all [] l ≡ l
   placed-all-own l h = placed-all-from [] l h
 

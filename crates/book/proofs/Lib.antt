@@ -4,4 +4,3 @@ pub mod Ladders
 pub mod Lookups
 pub mod Packing
 pub mod Taking
-pub mod Repricing

@@ -2,24 +2,23 @@
 use Prim.Native.Nat.{ℕ, _≤_, _<_, _+_, suc, zero}
 use mathlib.Core.Path.{_≡_, refl, sym, ap, ap₂, _∙_}
 use mathlib.Core.Bool.{Bool, true, false, cond, _&&_, _||_, not}
-use mathlib.Core.List.{List, [], _∷_, _++_}
+use mathlib.Core.List.{List, [], _∷_}
 use mathlib.Core.Logic.{⊎-elim}
 use native.Mathlib.Omega.{arith}
 use lib.ListN.{length, getD}
 use Rattle.std.specs.shelf.Lawful.{all-pass}
-use Rattle.std.specs.shelf.Lists.{All}
 use Rattle.std.specs.shelf.Text.{sameBytes}
 use Rattle.std.specs.Options.{isSome, mapped}
 use Rattle.std.specs.declared.option.Option.{Option}
 use Rattle.std.specs.declared.option.Option.the-variants.{Some, None}
-use Rattle.std.proofs.shelf.Tests.{both-ways, and-parts, and-from, not-true}
+use Rattle.std.proofs.shelf.Tests.{both-ways, and-parts, not-true}
 use Rattle.std.proofs.shelf.Ways.{tells}
 use Rattle.fields.specs.declared.values.Pair.{Pair}
 use Rattle.fields.specs.declared.values.Amount.{Amount}
-use Rattle.fields.proofs.Sames.{pair-same, label-same}
-use Rattle.book.specs.Ladder.{OrderId, samePair, ahead, named, at-level, inOrder, apart, stands, lookup, placed, without, at-rank, reset, amended, cleared}
+use Rattle.book.specs.Ladder.{OrderId, samePair, ahead, named, inOrder, apart, stands, lookup, placed, without, at-rank, reset, amended, cleared}
+use Rattle.book.specs.Calls.{PlaceRefused}
 use Rattle.book.specs.declared.order.Order.{Order}
-use Rattle.book.proofs.Orderly.{split, bytes-same, same-bytes, named-both, named-one}
+use Rattle.book.proofs.Orderly.{split, named-both, named-one}
 use Rattle.book.proofs.Ladders.{without-none, stands-none-named, named-reset}
 
 module _ {T : Type 0} where
@@ -115,3 +114,23 @@ module _ {T : Type 0} where
   pub lookup-cleared : (q : Pair) (j : OrderId) (p : Pair) (l : List (Order T)) → lookup q j (cleared p l) ≡ cond (samePair q p) None (lookup q j l)
   lookup-cleared q j p [] = grind (arith, tells)
   lookup-cleared q j p (x ∷ l) = let ih = lookup-cleared q j p l in let n = of-pair q j p x in grind (arith, tells)
+
+  pub lookup-none : (p : Pair) (i : OrderId) (l : List (Order T)) → stands p i l ≡ false → lookup p i l ≡ None
+  lookup-none p i l h = go (lookup p i l) refl
+    where
+      go : (o : Option (Order T)) → lookup p i l ≡ o → lookup p i l ≡ None
+      go None e = e
+      go (Some x) e = absurd (both-ways _ h (lookup-stands p i l ∙ ap isSome e))
+
+  -- the order that is looked up has the pair and the id
+  pub lookup-named : (p : Pair) (i : OrderId) (l : List (Order T)) (x : Order T) → lookup p i l ≡ Some x → named p i x ≡ true
+  lookup-named p i [] x h = let z : _≡_ {A = ℕ} 0 1 = cc in absurd (omega arith)
+  lookup-named p i (y ∷ l) x h =
+      (elim (named p i y) as (λ b. named p i y ≡ b → cond b (Some y) (lookup p i l) ≡ Some x → named p i x ≡ true) [
+        | true ↦ λ n e. let same : y ≡ x = cc in ap (named p i) (sym same) ∙ n
+        | false ↦ λ n e. lookup-named p i l x e
+      ]) refl h
+
+  -- a place that is refused by none of its causes is not refused
+  pub not-refused : (n : ℕ) (l : List (Order T)) (o : Order T) (k : ℕ) → PlaceRefused n l o k → stands (o .pair) (o .id) l ≡ false → length l < n → ⊥
+  not-refused n l o k h s b = ⊎-elim (λ a. both-ways _ s (a .1)) (λ a. omega (arith, a .2)) h

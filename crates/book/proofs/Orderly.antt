@@ -1,19 +1,20 @@
 -- That the ladder's order is total and transitive.
-use Prim.Native.Nat.{ℕ, _≤_, _<_}
+use Prim.Native.Nat.{ℕ}
 use mathlib.Core.Path.{_≡_, refl, sym, ap, ap₂, subst, _∙_}
-use mathlib.Core.Bool.{Bool, true, false, cond, _&&_, not}
+use mathlib.Core.Bool.{Bool, true, false, cond, _&&_}
 use mathlib.Core.List.{List, [], _∷_}
 use mathlib.Core.Logic.{_⊎_, inl, inr, ⊎-elim}
 use native.Mathlib.Omega.{arith}
-use lib.Dec.{leb, ltb, eqb}
+use lib.Dec.{eqb}
+use Rattle.std.specs.Orderings.{Decides}
 use Rattle.std.specs.shelf.Text.{sameBytes}
 use Rattle.std.proofs.shelf.Equals.{sameBytes-decides}
 use Rattle.std.proofs.shelf.Tests.{leb-true, leb-false, le-leb, true≢false, false≢true, both-ways, and-parts}
 use Rattle.std.proofs.shelf.Ways.{tells}
 use Rattle.fields.specs.declared.values.Pair.{Pair}
 use Rattle.fields.proofs.Sames.{pair-same, label-same}
-use Rattle.book.specs.Sides.{before, leads, sameSide}
-use Rattle.book.specs.Ladder.{OrderId, ahead, named, at-level}
+use Rattle.book.specs.Sides.{before, leads, sameSide, AsGood}
+use Rattle.book.specs.Ladder.{OrderId, ahead, Ahead, named, at-level}
 use Rattle.book.specs.declared.order.Side.{Side}
 use Rattle.book.specs.declared.order.Side.the-variants.{Bid, Offer}
 use Rattle.book.specs.declared.order.Order.{Order}
@@ -82,7 +83,29 @@ left-same p q r h = let e = bytes-same p q h in (ap (λ z. sameBytes z r) e, ap 
 right-same : (p q r : List ℕ) → sameBytes q r ≡ true → (sameBytes p r ≡ sameBytes p q) × (before p r ≡ before p q)
 right-same p q r h = let e = sym (bytes-same q r h) in (ap (sameBytes p) e, ap (before p) e)
 
+leads-says : (s : Side) (p : ℕ) (t : Side) (q : ℕ) → Decides (leads s p t q) (((s ≡ Bid) × (t ≡ Offer)) ⊎ ((s ≡ t) × AsGood t p q))
+leads-says Bid p Bid q = (λ h. inr (refl, leb-true q p h), ⊎-elim (λ e. let n = e .1 in let z : true ≡ false = cc in absurd (true≢false z)) (λ e. le-leb q p (e .1)))
+leads-says Bid p Offer q = (λ h. inl (refl, refl), λ e. refl)
+leads-says Offer p Bid q = (λ h. absurd (false≢true h), ⊎-elim (λ e. let n = e .0 in let z : true ≡ false = cc in absurd (true≢false z)) (λ e. let n = e .0 in let z : true ≡ false = cc in absurd (true≢false z)))
+leads-says Offer p Offer q = (λ h. inr (refl, leb-true p q h), ⊎-elim (λ e. let n = e .0 in let z : true ≡ false = cc in absurd (true≢false z)) (λ e. le-leb p q (e .1)))
+
 module _ {T : Type 0} where
+  pub ahead-says : (x o : Order T) → Decides (ahead x o) (Ahead x o)
+  unfolding ahead
+  ahead-says x o =
+      let side = leads-says (x .side) (x .price .count) (o .side) (o .price .count) in
+      let one : (x .pair ≡ o .pair) → sameBytes (x .pair .bytes) (o .pair .bytes) ≡ true = λ e. same-bytes _ _ (ap (λ z. z .bytes) e) in
+      let first : before (x .pair .bytes) (o .pair .bytes) ≡ true → sameBytes (x .pair .bytes) (o .pair .bytes) ≡ false =
+      λ b. ⊎-elim (λ e. absurd (both-ways _ (before-irrefl (x .pair .bytes)) (subst (λ z. before (x .pair .bytes) z ≡ true) (sym (bytes-same _ _ e)) b))) (λ n. n) (split _) in (
+        (elim (sameBytes (x .pair .bytes) (o .pair .bytes)) as (λ b. sameBytes (x .pair .bytes) (o .pair .bytes) ≡ b → cond b (leads (x .side) (x .price .count) (o .side) (o .price .count)) (before (x .pair .bytes) (o .pair .bytes)) ≡ true → Ahead x o) [
+          | true ↦ λ e h. inr (pair-same (x .pair) (o .pair) (bytes-same _ _ e), side .0 h)
+          | false ↦ λ e h. inl h
+        ]) refl,
+        ⊎-elim
+            (λ b. ap (λ t. cond t (leads (x .side) (x .price .count) (o .side) (o .price .count)) (before (x .pair .bytes) (o .pair .bytes))) (first b) ∙ b)
+            (λ e. ap (λ t. cond t (leads (x .side) (x .price .count) (o .side) (o .price .count)) (before (x .pair .bytes) (o .pair .bytes))) (one (e .0)) ∙ side .1 (e .1)),
+      )
+
   pub ahead-total : (x y : Order T) → ahead x y ≡ false → ahead y x ≡ true
   unfolding ahead
   ahead-total x y h =

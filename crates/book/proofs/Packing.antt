@@ -1,12 +1,12 @@
 -- What the rows' tests and edits say of the ladder that they stand for. Rows are spoken of by rank alone, so that this
 -- serves any book that keeps its rows in the ladder's order.
-use Prim.Native.Nat.{ℕ, _≤_, _<_, _+_, suc, zero}
+use Prim.Native.Nat.{ℕ, _≤_, _<_, suc, zero}
 use mathlib.Core.Path.{_≡_, refl, sym, ap, ap₂, subst, _∙_}
 use mathlib.Core.Bool.{Bool, true, false, cond, _&&_, _||_, not}
-use mathlib.Core.List.{List, [], _∷_, _++_}
+use mathlib.Core.List.{List, [], _∷_}
 use native.Mathlib.Omega.{arith}
 use denote.Struct.Props.{props}
-use lib.ListN.{length, getD, take, drop, set}
+use lib.ListN.{length, getD, set}
 use Rattle.std.specs.Places.{Every, At}
 use Rattle.std.specs.Holes.{inserted, removed}
 use Rattle.std.specs.Options.{isSome}
@@ -15,7 +15,6 @@ use Rattle.std.specs.declared.option.Option.the-variants.{Some, None}
 use Rattle.std.specs.shelf.Lists.{All, kept-by}
 use Rattle.std.specs.shelf.Lawful.{all-pass}
 use Rattle.std.proofs.shelf.Tests.{and-parts, and-from}
-use Rattle.fields.specs.Forms.{paired, labelled}
 use Rattle.fields.specs.declared.values.Pair.{Pair}
 use Rattle.fields.specs.declared.values.Price.{Price}
 use Rattle.fields.specs.declared.values.Amount.{Amount}

@@ -12,8 +12,7 @@ use Rattle.std.specs.declared.result.Result.{Result}
 use Rattle.std.specs.declared.result.Result.the-variants.{Ok, Err}
 use Rattle.fields.specs.declared.values.Pair.{Pair}
 use Rattle.fields.specs.declared.values.Amount.{Amount}
-use Rattle.fields.specs.declared.values.Price.{Price}
-use Rattle.book.specs.Ladder.{OrderId, stands, lookup, placed, amended, without}
+use Rattle.book.specs.Ladder.{OrderId, stands, placed, amended, without}
 use Rattle.book.specs.declared.order.Order.{Order}
 use Rattle.book.specs.declared.ladder.BookFault.{BookFault}
 use Rattle.book.specs.declared.ladder.BookFault.the-variants.{NotStanding, Standing, Full}
@@ -52,12 +51,3 @@ Finds {T} test l (Some k) = (k < length l) × ((d : Order T) → test (getD l k 
 abbrev pub Makes : {B T E : Type 0} → (B → ℕ) → (B → List (Order T)) → ℕ → Result B E → Type 0
 Makes capacity ladder s (Ok b) = (capacity b ≡ min s 512) × (ladder b ≡ [])
 Makes capacity ladder s (Err e) = Unit {0}
-
--- the order at another price
-abbrev pub repriced : {T : Type 0} → Price → Order T → Order T
-repriced c x = record { pair = x .pair; side = x .side; id = x .id; price = c; amount = x .amount; terms = x .terms }
-
--- reprice: 31 if no such order stands; otherwise it is taken off and placed again on its side, at the new price
-abbrev pub Reprice : {T : Type 0} → List (Order T) → Pair → OrderId → Price → Result (Unit {0}) BookFault → List (Order T) → Type 0
-Reprice {T} l p i c (Ok _) l′ = (x : Order T) × (lookup p i l ≡ Some x) × (l′ ≡ placed (repriced c x) (without p i l))
-Reprice l p i c (Err e) l′ = (number e ≡ 31) × (lookup p i l ≡ None) × (l′ ≡ l)

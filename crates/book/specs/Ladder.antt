@@ -3,6 +3,7 @@ use Prim.Native.Nat.{ℕ, suc, zero}
 use mathlib.Core.Path.{_≡_}
 use mathlib.Core.Bool.{Bool, true, false, cond, not, _&&_, _||_}
 use mathlib.Core.List.{List, [], _∷_, _++_}
+use mathlib.Core.Logic.{_⊎_}
 use lib.Dec.{eqb}
 use Rattle.std.specs.shelf.Text.{sameBytes}
 use Rattle.std.specs.shelf.Lists.{All}
@@ -13,8 +14,9 @@ use Rattle.fields.specs.declared.values.Pair.{Pair}
 use Rattle.fields.specs.declared.values.Label.{Label}
 use Rattle.fields.specs.declared.values.Price.{Price}
 use Rattle.fields.specs.declared.values.Amount.{Amount}
-use Rattle.book.specs.Sides.{before, sameSide, leads}
+use Rattle.book.specs.Sides.{before, sameSide, leads, AsGood}
 use Rattle.book.specs.declared.order.Side.{Side}
+use Rattle.book.specs.declared.order.Side.the-variants.{Bid, Offer}
 use Rattle.book.specs.declared.order.Order.{Order}
 
 abbrev pub OrderId : Type 0
@@ -23,10 +25,17 @@ OrderId = Label 15
 abbrev pub samePair : Pair → Pair → Bool
 samePair p q = sameBytes (p .bytes) (q .bytes)
 
--- x, standing already, stays in front of y when y is placed
+-- x, standing already, stays in front of o when o is placed
 unfoldable pub ahead : {T : Type 0} → Order T → Order T → Bool
-ahead x y =
-    cond (samePair (x .pair) (y .pair)) (leads (x .side) (x .price .count) (y .side) (y .price .count)) (before (x .pair .bytes) (y .pair .bytes))
+ahead x o =
+    cond (samePair (x .pair) (o .pair)) (leads (x .side) (x .price .count) (o .side) (o .price .count)) (before (x .pair .bytes) (o .pair .bytes))
+
+-- the same in words: its pair comes first in byte order; or it is of o's pair, and a bid where o is an offer, or of o's
+-- side at a better or an equal price
+abbrev pub Ahead : {T : Type 0} → Order T → Order T → Type 0
+Ahead x o =
+    (before (x .pair .bytes) (o .pair .bytes) ≡ true)
+    ⊎ ((x .pair ≡ o .pair) × (((x .side ≡ Bid) × (o .side ≡ Offer)) ⊎ ((x .side ≡ o .side) × AsGood (o .side) (x .price .count) (o .price .count))))
 
 -- x has this pair and this id
 unfoldable pub named : {T : Type 0} → Pair → OrderId → Order T → Bool

@@ -1,5 +1,5 @@
 -- The laws of ladders that callers of a book need.
-use Prim.Native.Nat.{ℕ, _+_, _≤_, suc}
+use Prim.Native.Nat.{ℕ, _+_, _≤_}
 use mathlib.Core.Path.{_≡_}
 use mathlib.Core.Bool.{true, false, cond, _&&_}
 use mathlib.Core.List.{List, [], _∷_, _++_}
@@ -7,14 +7,17 @@ use lib.ListN.{length}
 use Rattle.std.specs.shelf.Lists.{All}
 use Rattle.std.specs.shelf.Text.{sameBytes}
 use Rattle.std.specs.Options.{isSome, mapped}
+use Rattle.std.specs.Orderings.{Decides}
 use Rattle.std.specs.declared.option.Option.the-variants.{Some, None}
 use Rattle.fields.specs.declared.values.Pair.{Pair}
 use Rattle.fields.specs.declared.values.Amount.{Amount}
-use Rattle.book.specs.Ladder.{OrderId, Ladder, inOrder, stands, named, samePair, at-level, lookup, at-rank, Placed, placed, placed-all, reset, amended, without, cleared}
+use Rattle.book.specs.Ladder.{OrderId, Ladder, ahead, Ahead, inOrder, stands, named, samePair, at-level, lookup, at-rank, Placed, placed, placed-all, reset, amended, without, cleared}
 use Rattle.book.specs.Calls.{Finds}
 use Rattle.book.specs.declared.order.Order.{Order}
 
 pub record LadderLaws (T : Type 0) : Type 0 where
+  -- the test of who stays in front says what its words say
+  pub ahead-says : (x o : Order T) → Decides (ahead x o) (Ahead x o)
   -- placing as a function and as a relation agree
   pub placed-is : (o : Order T) (l : List (Order T)) → inOrder l ≡ true → Placed o l (placed o l)
   pub placed-only : (o : Order T) (l l′ : List (Order T)) → Placed o l l′ → l′ ≡ placed o l

@@ -1,5 +1,5 @@
 -- The order of bytes, of sides and of prices.
-use Prim.Native.Nat.{ℕ}
+use Prim.Native.Nat.{ℕ, _≤_}
 use mathlib.Core.Bool.{Bool, true, false, cond}
 use mathlib.Core.List.{List, [], _∷_}
 use lib.Dec.{leb, ltb, eqb}
@@ -20,9 +20,14 @@ sameSide Offer Bid = false
 sameSide Offer Offer = true
 
 -- in one pair, an order of side s at price p that stands already leads one of side t at price q:
--- bids lead offers; on one side a better price leads, and so does an equal one
+-- bids lead offers; on one side the better price leads, and an equal one too
 abbrev pub leads : Side → ℕ → Side → ℕ → Bool
 leads Bid p Bid q = leb q p
 leads Bid p Offer q = true
 leads Offer p Bid q = false
 leads Offer p Offer q = leb p q
+
+-- on this side, price p is better than q or equal to it
+abbrev pub AsGood : Side → ℕ → ℕ → Type 0
+AsGood Bid p q = q ≤ p
+AsGood Offer p q = p ≤ q

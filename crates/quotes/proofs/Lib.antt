@@ -1,1 +1,2 @@
+pub mod Repriced
 pub mod Quoting

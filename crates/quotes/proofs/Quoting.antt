@@ -4,18 +4,17 @@ use mathlib.Core.Path.{_≡_, sym, ap, _∙_}
 use mathlib.Core.Bool.{true}
 use mathlib.Core.List.{List}
 use native.Mathlib.Omega.{arith}
-use Rattle.std.specs.declared.option.Option.{Option}
 use Rattle.std.specs.declared.option.Option.the-variants.{Some, None}
 use Rattle.std.specs.declared.result.Result.the-variants.{Ok}
 use Rattle.fields.specs.declared.values.Pair.{Pair}
 use Rattle.fields.specs.declared.values.Price.{Price}
-use Rattle.book.specs.Ladder.{OrderId, apart, named, lookup, at-rank, placed, without}
-use Rattle.book.specs.Calls.{Finds, repriced, Reprice}
+use Rattle.book.specs.Ladder.{OrderId, apart, named, lookup}
+use Rattle.book.specs.Calls.{Finds}
 use Rattle.book.specs.declared.order.Order.{Order}
 use Rattle.book.proofs.Ladders.{finds-stands}
-use Rattle.book.proofs.Lookups.{lookup-rank}
-use Rattle.book.proofs.Repricing.{lookup-none, lookup-repriced}
-use Rattle.quotes.specs.Quotes.{Requote}
+use Rattle.book.proofs.Lookups.{lookup-none, lookup-rank}
+use Rattle.quotes.specs.Quotes.{repriced, Reprice, Requote}
+use Rattle.quotes.proofs.Repriced.{lookup-repriced}
 
 module _ {T : Type 0} (l : List (Order T)) (p : Pair) (i : OrderId) (c : Price) (l′ : List (Order T)) (apart-still : apart l′ ≡ true) (done : Reprice l p i c (Ok tt) l′) where
   found : lookup p i l′ ≡ Some (repriced c (done .0))

@@ -9,12 +9,17 @@ use book::BookFault;
 use book::MadeBook;
 use book::Order;
 use book::Terms;
-use book::reprice;
 use fields::OrderId;
 use fields::Pair;
 use fields::Price;
 use std::alloc::AllocError;
 use std::alloc::Global;
+
+mod repricing;
+
+pub use repricing::at_price;
+pub use repricing::reprice;
+pub use repricing::standing;
 
 // A new book with one order in it, if it has a slot.
 pub fn opened<T: Terms, B: MadeBook<T> + Drop>(

@@ -1,3 +1,4 @@
+use Rattle.book.proofs.Orderly.{ahead-says}
 use Rattle.book.proofs.Ladders.{placed-is, placed-only, one-place, placed-all-own, placed-inOrder, placed-apart, amended-inOrder, amended-apart, without-inOrder, without-apart}
 use Rattle.book.proofs.Lookups.{cleared-inOrder, cleared-apart, placed-length, amended-length, without-length, cleared-length, amended-rank, lookup-stands, lookup-rank, lookup-placed, lookup-amended, lookup-without, lookup-cleared}
 use mathlib.Core.Path.{_∙_}
@@ -5,6 +6,7 @@ use Rattle.book.proofs.laws.ladder_laws.Needs as need
 
 pub returns : need.returns
 returns g c = record {
+  ahead-says = ahead-says;
   placed-is = placed-is;
   placed-only = placed-only;
   one-place = one-place;

@@ -1,10 +1,10 @@
-use Prim.Native.Nat.{_<_, _≤_, _+_}
+use Prim.Native.Nat.{_+_}
 use mathlib.Core.Path.{_≡_, refl, sym, ap, subst, _∙_}
-use mathlib.Core.Bool.{true, false, cond}
+use mathlib.Core.Bool.{cond}
 use mathlib.Core.Logic.{inl, inr}
 use native.Mathlib.Omega.{arith}
 use Rattle.std.specs.Holes.{inserted}
-use Rattle.std.specs.Of.Vec.{vec-items, vec-len, vec-cap}
+use Rattle.std.specs.Of.Vec.{vec-items, vec-len}
 use Rattle.std.proofs.shelf.Tests.{leb-true, leb-false}
 use Rattle.book.specs.Rows.{row-of}
 use Rattle.book.specs.RowTests.{First, rowNamed, AheadOf}

@@ -1,10 +1,10 @@
 use Prim.Native.Nat.{_≤_}
-use mathlib.Core.Path.{_≡_, sym, subst, _∙_}
+use mathlib.Core.Path.{sym, subst, _∙_}
 use lib.ListN.{length}
 use Rattle.std.proofs.shelf.Results.{err-from-errBy}
 use Rattle.book.specs.Calls.{Place}
-use Rattle.book.proofs.Repricing.{replaced, not-removed}
-use Rattle.book.proofs.replacing.reprice.Needs as need
+use Rattle.quotes.proofs.Repriced.{replaced, not-removed}
+use Rattle.quotes.proofs.repricing.reprice.Needs as need
 
 pub returns-in-Break-remove : need.returns-in-Break-remove
 returns-in-Break-remove g c =

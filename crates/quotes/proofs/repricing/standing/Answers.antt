@@ -1,9 +1,8 @@
 use mathlib.Core.Path.{sym, _∙_}
 use Rattle.std.specs.declared.option.Option.the-variants.{None}
 use Rattle.book.proofs.Ladders.{finds-stands}
-use Rattle.book.proofs.Lookups.{lookup-rank}
-use Rattle.book.proofs.Repricing.{lookup-none}
-use Rattle.book.proofs.replacing.standing.Needs as need
+use Rattle.book.proofs.Lookups.{lookup-none, lookup-rank}
+use Rattle.quotes.proofs.repricing.standing.Needs as need
 
 pub returns-in-Some : need.returns-in-Some
 returns-in-Some g c =

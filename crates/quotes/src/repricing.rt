@@ -1,11 +1,11 @@
 // The order of a pair and id, and its repricing, on any book.
 ghost use mathlib.Core.Path.{_≡_};
 ghost use Rattle.book.specs.Ladder.{lookup};
-ghost use Rattle.book.specs.Calls.{repriced, Reprice};
-use crate::ladder::Book;
-use crate::ladder::BookFault;
-use crate::order::Order;
-use crate::order::Terms;
+ghost use Rattle.quotes.specs.Quotes.{repriced, Reprice};
+use book::Book;
+use book::BookFault;
+use book::Order;
+use book::Terms;
 use fields::OrderId;
 use fields::Pair;
 use fields::Price;

@@ -1,48 +1,26 @@
 -- The repricing of an order, from what the book's calls answer.
-use Prim.Native.Nat.{ℕ, _≤_, _<_}
+use Prim.Native.Nat.{ℕ, _≤_}
 use mathlib.Core.Path.{_≡_, refl, sym, ap, ap₂, subst, _∙_}
-use mathlib.Core.Bool.{true, false, cond}
-use mathlib.Core.Logic.{⊎-elim}
-use mathlib.Core.List.{List, [], _∷_}
+use mathlib.Core.Bool.{false, cond}
+use mathlib.Core.List.{List}
 use native.Mathlib.Omega.{arith}
 use lib.ListN.{length}
 use Rattle.std.specs.Options.{isSome}
-use Rattle.std.specs.declared.option.Option.{Option}
-use Rattle.std.specs.declared.option.Option.the-variants.{Some, None}
+use Rattle.std.specs.declared.option.Option.the-variants.{Some}
 use Rattle.std.specs.declared.result.Result.{Result}
 use Rattle.std.specs.declared.result.Result.the-variants.{Ok, Err}
-use Rattle.std.proofs.shelf.Tests.{both-ways}
 use Rattle.fields.specs.declared.values.Pair.{Pair}
 use Rattle.fields.specs.declared.values.Price.{Price}
-use Rattle.book.specs.Ladder.{OrderId, named, apart, stands, lookup, at-rank, placed, without}
-use Rattle.book.specs.Calls.{number, Finds, Place, PlaceRefused, Remove, repriced, Reprice}
+use Rattle.book.specs.Ladder.{OrderId, named, stands, lookup, placed, without}
+use Rattle.book.specs.Calls.{number, Place, Remove}
+use Rattle.quotes.specs.Quotes.{repriced, Reprice}
 use Rattle.book.specs.declared.ladder.BookFault.{BookFault}
 use Rattle.book.specs.declared.order.Order.{Order}
 use Rattle.book.proofs.Orderly.{named-one}
-use Rattle.book.proofs.Ladders.{finds-stands, without-gone, without-shorter}
-use Rattle.book.proofs.Lookups.{lookup-stands, lookup-placed}
+use Rattle.book.proofs.Ladders.{without-gone, without-shorter}
+use Rattle.book.proofs.Lookups.{lookup-none, lookup-named, lookup-stands, lookup-placed, not-refused}
 
 module _ {T : Type 0} where
-  pub lookup-none : (p : Pair) (i : OrderId) (l : List (Order T)) → stands p i l ≡ false → lookup p i l ≡ None
-  lookup-none p i l h = go (lookup p i l) refl
-    where
-      go : (o : Option (Order T)) → lookup p i l ≡ o → lookup p i l ≡ None
-      go None e = e
-      go (Some x) e = absurd (both-ways _ h (lookup-stands p i l ∙ ap isSome e))
-
-  -- the order that is looked up has the pair and the id
-  pub lookup-named : (p : Pair) (i : OrderId) (l : List (Order T)) (x : Order T) → lookup p i l ≡ Some x → named p i x ≡ true
-  lookup-named p i [] x h = let z : _≡_ {A = ℕ} 0 1 = cc in absurd (omega arith)
-  lookup-named p i (y ∷ l) x h =
-      (elim (named p i y) as (λ b. named p i y ≡ b → cond b (Some y) (lookup p i l) ≡ Some x → named p i x ≡ true) [
-        | true ↦ λ n e. let same : y ≡ x = cc in ap (named p i) (sym same) ∙ n
-        | false ↦ λ n e. lookup-named p i l x e
-      ]) refl h
-
-  -- a place that is refused by none of its causes is not refused
-  pub not-refused : (n : ℕ) (l : List (Order T)) (o : Order T) (k : ℕ) → PlaceRefused n l o k → stands (o .pair) (o .id) l ≡ false → length l < n → ⊥
-  not-refused n l o k h s b = ⊎-elim (λ a. both-ways _ s (a .1)) (λ a. omega (arith, a .2)) h
-
   pub replaced : (n : ℕ) (l : List (Order T)) (p : Pair) (i : OrderId) (c : Price) (x : Order T) (m : List (Order T)) (r : Result (Unit {0}) BookFault) (l′ : List (Order T)) → length l ≤ n → lookup p i l ≡ Some x → m ≡ without p i l → Place n m (repriced c x) r l′ → Reprice l p i c r l′
   replaced n l p i c x m (Ok u) l′ few found gone put = (x, found, put .2 ∙ ap (placed (repriced c x)) gone)
   replaced n l p i c x m (Err e) l′ few found gone put =
