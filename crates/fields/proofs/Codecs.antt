@@ -22,18 +22,19 @@ use Rattle.fields.specs.declared.values.Integer.{Integer}
 use Rattle.fields.specs.declared.values.Label.{Label}
 use Rattle.fields.specs.declared.values.Pair.{Pair}
 use Rattle.fields.specs.declared.values.TimeOfDay.{TimeOfDay}
-use Rattle.fields.specs.Bytes.{Digit, Space, Printable, Letter}
-use Rattle.fields.specs.Numerals.{Decimal, DecimalField, Whole, pointed, readOn}
+use Rattle.digits.specs.Bytes.{Digit, Space}
+use Rattle.fields.specs.Bytes.{Printable, Letter}
+use Rattle.digits.specs.Numerals.{Decimal, DecimalField, Whole, pointed, readOn}
 use Rattle.fields.specs.Forms.{Labelled, Paired, Timed}
 use Rattle.fields.specs.Fields.{PriceField, AmountField, QuantityField, BlankField, IntegerField, LabelField, PairField, TimeField, priceText, amountText, quantityText, integerText}
-use Rattle.fields.specs.Written.{written, padded, justified}
+use Rattle.digits.specs.Written.{written, padded, justified}
 use Rattle.fields.specs.Calls.{Reads}
 use Rattle.fields.specs.Laws.{Codec, FieldLaws}
-use Rattle.fields.proofs.Counts.{one-count, own, written-reads}
-use Rattle.fields.proofs.Fronts.{pow10-le, spaces-replicate}
-use Rattle.fields.proofs.Shapes.{blank-none}
-use Rattle.fields.proofs.Wholes.{one-whole}
-use Rattle.fields.proofs.Puts.{length-padded, length-justified}
+use Rattle.digits.proofs.Counts.{one-count, own, written-reads}
+use Rattle.digits.proofs.Fronts.{pow10-le, spaces-replicate}
+use Rattle.digits.proofs.Shapes.{blank-none}
+use Rattle.digits.proofs.Wholes.{one-whole}
+use Rattle.digits.proofs.Puts.{length-padded, length-justified}
 use Rattle.fields.proofs.Ranges.{price-fits, price-small, amount-fits, amount-small, quantity-amount}
 use Rattle.fields.proofs.Sames.{price-same, amount-same, quantity-same, integer-same, label-same, pair-same, time-same}
 use Rattle.fields.proofs.Tests.{labelled-decides, paired-decides, timed-decides}

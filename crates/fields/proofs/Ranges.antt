@@ -9,9 +9,9 @@ use lib.ListN.{length}
 use Rattle.std.specs.Written.{digits}
 use Rattle.std.proofs.shelf.Ways.{tells}
 use Rattle.std.proofs.shelf.Tests.{cases-lt}
-use Rattle.fields.specs.Written.{written}
+use Rattle.digits.specs.Written.{written}
 use Rattle.fields.specs.Ranges.{between, priced, PriceCount, AmountCount, QuantityCount}
-use Rattle.fields.proofs.Counts.{written-fits}
+use Rattle.digits.proofs.Counts.{written-fits}
 
 pub between-bounds : (least most n : ℕ) → between least most n ≡ true → (least ≤ n) × (n ≤ most)
 between-bounds least most n h = (grind (arith, tells), grind (arith, tells))
