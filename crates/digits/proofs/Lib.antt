@@ -4,3 +4,4 @@ pub mod Writes
 pub mod Counts
 pub mod Wholes
 pub mod Puts
+pub mod Onlys

@@ -1,9 +1,8 @@
 // Decimals of any width and number of places.
 ghost use mathlib.Core.Path.{_≡_};
 ghost use mathlib.Core.List.{_++_};
-ghost use Prim.Native.Nat.{ℕ, _+_, _-_, _*_, _/_, _%_, _^_, _<_, _≤_};
+ghost use Prim.Native.Nat.{_+_, _-_, _*_, _/_, _%_, _^_, _<_, _≤_};
 ghost use lib.ListN.{length, getD, take, set};
-ghost use Rattle.std.specs.Options.{Cases as BySome};
 ghost use Rattle.std.specs.Orderings.{Decides};
 ghost use Rattle.digits.specs.Calls.{Only, Puts};
 ghost use Rattle.digits.specs.Numerals.{Decimal, DecimalField, pointed};
@@ -37,7 +36,7 @@ fn is_point(s: &[u8], at: usize) -> bool
 // The count of the decimal that `s` holds, in units of the last of the places, or none if it holds none.
 fn count(s: &[u8], places: usize) -> Option<u64>
     requires { ⌜ length (now s) + places ≤ 18 ⌝ }
-    ensures { λ r. ⌜ BySome r ((n : ℕ) → Decimal places (now (s .entry)) n → ⊥) (λ n. Decimal places (now (s .entry)) n) ⌝ }
+    ensures { λ r. ⌜ Only (Decimal places (now (s .entry))) r ⌝ }
 {
     let (end, whole) = runs::run(s, 0, 0);
     if end == 0 {
@@ -65,10 +64,7 @@ impl DecimalForm {
         if s.len() != self.width {
             return None;
         }
-        match count(s, self.places) {
-            Some(n) => Some(n),
-            None => None,
-        }
+        count(s, self.places)
     }
 }
 

@@ -1,13 +1,12 @@
 // Integers of any width: spaces, then digits up to the field's end.
 ghost use mathlib.Core.Path.{_≡_};
-ghost use Prim.Native.Nat.{ℕ, _+_, _-_, _^_, _<_, _≤_};
+ghost use Prim.Native.Nat.{_^_, _<_, _≤_};
 ghost use lib.ListN.{length};
+ghost use Rattle.std.specs.Orderings.{Decides};
 ghost use Rattle.std.specs.Written.{decimal as figures};
 ghost use Rattle.digits.specs.Calls.{Only, Puts};
 ghost use Rattle.digits.specs.Numerals.{Whole};
 ghost use Rattle.digits.specs.Written.{justified};
-ghost use Rattle.std.specs.Options.{Cases as BySome};
-ghost use Rattle.std.specs.Orderings.{Decides};
 use crate::bytes;
 use crate::runs;
 use crate::texts::IntegerText;
@@ -22,7 +21,7 @@ fn some_to_end(at: usize, end: usize, len: usize) -> bool
 // The number that `s` holds as spaces and then digits, or none if it holds none.
 fn value(s: &[u8]) -> Option<u64>
     requires { ⌜ length (now s) ≤ 18 ⌝ }
-    ensures { λ r. ⌜ BySome r ((n : ℕ) → Whole (now (s .entry)) n → ⊥) (λ n. Whole (now (s .entry)) n × (n < 10 ^ length (now (s .entry)))) ⌝ }
+    ensures { λ r. ⌜ Only (λ n. Whole (now (s .entry)) n × (n < 10 ^ length (now (s .entry)))) r ⌝ }
 {
     let at = runs::skip_spaces(s);
     let (end, n) = runs::run(s, at, 0);
@@ -39,10 +38,7 @@ pub fn read_integer(s: &[u8]) -> Option<u64>
     if s.len() > 18 {
         return None;
     }
-    match value(s) {
-        Some(n) => Some(n),
-        None => None,
-    }
+    value(s)
 }
 
 // Fills `out` with the digits of `n` at its end, and spaces before them.

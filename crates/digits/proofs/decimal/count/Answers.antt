@@ -7,6 +7,7 @@ use Rattle.std.specs.shelf.Lists.{All}
 use Rattle.std.proofs.shelf.Ways.{not-from-decides}
 use Rattle.digits.specs.Bytes.{Space}
 use Rattle.digits.specs.Numerals.{Decimal, front}
+use Rattle.digits.proofs.Counts.{one-count}
 use Rattle.digits.proofs.Fronts.{pow10-more, scaled-room}
 use Rattle.digits.proofs.Shapes.{Cut, cut-decimal, decimal-cut, decimal-some, decimal-shape, plain-decimal}
 use Rattle.digits.proofs.decimal.count.Needs as need
@@ -29,11 +30,12 @@ scaled-requires c κs = (scaled-room _ (c .run-end .result .0) _ (c .args .place
 pub returns-then-not-is-point : need.returns-then-not-is-point
 returns-then-not-is-point c =
     let e : c .run-end .result .0 ≡ length (front (c .args .s .now)) = omega arith in
-    plain-decimal _ _ _ (omega arith)
+    let d = plain-decimal (c .args .places) (c .args .s .now) (c .scaled .result) (omega arith)
     (record {
       spaces = subst (λ i. All Space (drop i (c .args .s .now))) e (c .spaces .ensures .0 (c .if-not-spaces .left));
       count = c .scaled .ensures ∙ ap (λ x. x * 10 ^ c .args .places) (c .run-end .ensures .number);
-    })
+    }) in
+    (d, λ m f. one-count _ _ m _ f d)
 
 pub run-stop-requires : need.run-stop-requires
 run-stop-requires c κs =
@@ -69,4 +71,5 @@ scaled-requires-2 c κs =
 pub returns : need.returns
 returns c =
     let f = c .some-but-few .ensures .0 (c .if-not-some-but-few .left) in
-    cut-decimal (cut (need.at·returns c .After-run-stop)) _ _ (omega arith) (f .0) (f .1) (c .spaces-else-not-some-but-few .ensures .0 (c .if-not-spaces-2 .left)) (c .scaled-2 .ensures)
+    let d = cut-decimal (cut (need.at·returns c .After-run-stop)) (c .args .places) (c .scaled-2 .result) (omega arith) (f .0) (f .1) (c .spaces-else-not-some-but-few .ensures .0 (c .if-not-spaces-2 .left)) (c .scaled-2 .ensures) in
+    (d, λ m f. one-count _ _ m _ f d)
