@@ -1,27 +1,26 @@
 -- The laws of the decimals: the count is unique, what is written reads back, and it fits its field.
-use mathlib.Core.Path.{_≡_, refl, sym, ap, subst, _∙_}
-use mathlib.Core.Bool.{true, false, cond}
-use mathlib.Core.Logic.{_⊎_, inl, inr, ⊎-elim}
-use mathlib.Core.List.{List, [], _∷_, _++_}
+use mathlib.Core.Path.{_≡_, sym, ap, _∙_}
+use mathlib.Core.Logic.{_⊎_, ⊎-elim}
+use mathlib.Core.List.{List, [], _∷_}
 use Prim.Native.Nat.{ℕ, suc, zero, _+_, _-_, _*_, _/_, _%_, _^_, _≤_, _<_}
-use native.Mathlib.Nat.{pow-suc, mod-lt, div-add-mod', div-lt-iff-lt-mul, div-le-self, mul-assoc, mul-comm, add-mul, pow-zero, mul-one, add-zero}
+use native.Mathlib.Nat.{pow-suc, mod-lt, div-add-mod', div-lt-iff-lt-mul, div-le-self, mul-assoc, mul-comm, add-mul, pow-zero, mul-one}
 use native.Mathlib.Omega.{arith}
 use borrow.Author.Needs.{needs}
 use lib.Pow.{pow-add}
 use lib.Dec.{eqb}
-use lib.ListN.{length, getD, take, drop, set, replicate}
+use lib.ListN.{length, replicate}
 use Rattle.std.specs.shelf.Lists.{All}
 use Rattle.std.specs.Written.{decimal}
-use Rattle.std.proofs.shelf.Tests.{cond-both, eqb-true, eqb-false}
+use Rattle.std.proofs.shelf.Tests.{cond-both, eqb-true}
 use Rattle.std.proofs.shelf.Lists.{length-append, append-assoc}
 use Rattle.std.proofs.shelf.Decimals.{digits-decimal, value-decimal, length-decimal-le, decimal-some}
 use Rattle.std.proofs.shelf.Numerals.{Numerals, numerals-by-fold}
-use Rattle.digits.specs.Bytes.{Digit, Space}
+use Rattle.digits.specs.Bytes.{Digit}
 use Rattle.digits.specs.Numerals.{readOn, pointed, front, Decimal}
 use Rattle.digits.specs.Written.{decimals, written, padded}
-use Rattle.digits.proofs.Fronts.{pow10-le, spaces-rest, spaces-replicate}
+use Rattle.digits.proofs.Fronts.{spaces-rest, spaces-replicate}
 use Rattle.digits.proofs.Shapes.{Plain, Parted, decimal-shape, readOn-append}
-use Rattle.digits.proofs.Writes.{pow10-pos, top-digit}
+use Rattle.digits.proofs.Writes.{pow10-pos}
 
 apart : (k : ℕ) (bs : List ℕ) (m n : ℕ) → Plain k bs m → Parted k bs n → ⊥
 apart k bs m n p q =

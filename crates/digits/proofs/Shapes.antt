@@ -1,14 +1,14 @@
 -- A decimal by its leading digits: what a reader finds, and that nothing else is one.
 use mathlib.Core.Path.{_≡_, refl, sym, ap, subst, _∙_}
-use mathlib.Core.Bool.{true, false, cond}
+use mathlib.Core.Bool.{cond}
 use mathlib.Core.Logic.{_⊎_, inl, inr, ⊎-elim}
 use mathlib.Core.List.{List, [], _∷_, _++_}
 use Prim.Native.Nat.{ℕ, _+_, _-_, _*_, _^_, _≤_, _<_}
 use native.Mathlib.Omega.{arith}
-use lib.ListN.{length, getD, take, drop}
+use lib.ListN.{length, getD, drop}
 use Rattle.std.specs.shelf.Lists.{All}
 use Rattle.std.specs.Text.{asciiDigit}
-use Rattle.std.proofs.shelf.Lists.{drop-at, drop-drop, length-append, append-nil, drop-more, append-assoc, getD-drop}
+use Rattle.std.proofs.shelf.Lists.{drop-at, drop-drop, length-append, append-nil, drop-more, getD-drop}
 use Rattle.digits.specs.Bytes.{Digit, Space}
 use Rattle.digits.specs.Numerals.{front, readOn, pointed, Decimal}
 use Rattle.digits.proofs.Fronts.{front-append, front-digits, front-past, spaces-rest}

@@ -1,7 +1,7 @@
 // Decimals of any width and number of places.
 ghost use mathlib.Core.Path.{_≡_};
 ghost use mathlib.Core.List.{_++_};
-ghost use Prim.Native.Nat.{_+_, _-_, _*_, _/_, _%_, _^_, _<_, _≤_};
+ghost use Prim.Native.Nat.{_+_, _*_, _^_, _<_, _≤_};
 ghost use lib.ListN.{length, getD, take, set};
 ghost use Rattle.std.specs.Orderings.{Decides};
 ghost use Rattle.digits.specs.Calls.{Only, Puts};

@@ -1,9 +1,8 @@
 -- The laws of the fields.
 use mathlib.Core.Path.{_≡_, refl, sym, ap, subst, _∙_}
-use mathlib.Core.Bool.{true}
 use mathlib.Core.Logic.{_⊎_, inl, inr, ⊎-elim}
 use mathlib.Core.List.{List, [], _∷_, _++_}
-use Prim.Native.Nat.{ℕ, suc, zero, _+_, _-_, _^_, _≤_, _<_}
+use Prim.Native.Nat.{ℕ, _+_, _-_, _^_, _≤_, _<_}
 use native.Mathlib.Omega.{arith}
 use lib.Dec.{eqb}
 use lib.ListN.{length, getD, replicate}
@@ -23,8 +22,8 @@ use Rattle.fields.specs.declared.values.Label.{Label}
 use Rattle.fields.specs.declared.values.Pair.{Pair}
 use Rattle.fields.specs.declared.values.TimeOfDay.{TimeOfDay}
 use Rattle.digits.specs.Bytes.{Digit, Space}
-use Rattle.fields.specs.Bytes.{Printable, Letter}
-use Rattle.digits.specs.Numerals.{Decimal, DecimalField, Whole, pointed, readOn}
+use Rattle.fields.specs.Bytes.{Printable}
+use Rattle.digits.specs.Numerals.{Decimal, DecimalField, Whole, pointed}
 use Rattle.fields.specs.Forms.{Labelled, Paired, Timed}
 use Rattle.fields.specs.Fields.{PriceField, AmountField, QuantityField, BlankField, IntegerField, LabelField, PairField, TimeField, priceText, amountText, quantityText, integerText}
 use Rattle.digits.specs.Written.{written, padded, justified}

@@ -1,6 +1,5 @@
 // Integers of at most 18 digits.
-ghost use mathlib.Core.Path.{_≡_};
-ghost use Prim.Native.Nat.{_^_, _<_, _≤_};
+ghost use Prim.Native.Nat.{_≤_};
 ghost use lib.ListN.{length};
 ghost use Rattle.std.specs.Written.{decimal as figures};
 ghost use Rattle.std.specs.Orderings.{Decides};

@@ -1,5 +1,4 @@
 use mathlib.Core.Path.{refl}
-use native.Mathlib.Omega.{arith}
 use Rattle.digits.proofs.Puts.{field-filled}
 use Rattle.digits.proofs.bytes.put.Needs as need
 

@@ -1,12 +1,12 @@
 use mathlib.Core.Path.{_≡_, refl, sym, ap, subst, _∙_}
 use mathlib.Core.Logic.{⊎-elim}
-use Prim.Native.Nat.{ℕ, _+_, _-_, _*_, _^_, _≤_, _<_}
+use Prim.Native.Nat.{_+_, _-_, _*_, _^_}
 use native.Mathlib.Omega.{arith}
 use lib.ListN.{length, getD, drop}
 use Rattle.std.specs.shelf.Lists.{All}
 use Rattle.std.proofs.shelf.Ways.{not-from-decides}
 use Rattle.digits.specs.Bytes.{Space}
-use Rattle.digits.specs.Numerals.{Decimal, front}
+use Rattle.digits.specs.Numerals.{front}
 use Rattle.digits.proofs.Counts.{one-count}
 use Rattle.digits.proofs.Fronts.{pow10-more, scaled-room}
 use Rattle.digits.proofs.Shapes.{Cut, cut-decimal, decimal-cut, decimal-some, decimal-shape, plain-decimal}

@@ -2,7 +2,7 @@ use mathlib.Core.Path.{_≡_, sym, ap, _∙_}
 use mathlib.Core.List.{_++_, append-nil}
 use Prim.Native.Nat.{_<_, _+_}
 use native.Mathlib.Omega.{arith}
-use lib.ListN.{length, take, length-set}
+use lib.ListN.{length, take}
 use Rattle.digits.specs.Numerals.{pointed}
 use Rattle.digits.specs.Written.{decimals}
 use Rattle.digits.proofs.Shapes.{pointed-some}

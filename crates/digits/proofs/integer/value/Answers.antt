@@ -1,6 +1,6 @@
 use mathlib.Core.Path.{_≡_, subst}
 use Prim.Native.Nat.{_<_, _^_}
-use lib.ListN.{length, getD}
+use lib.ListN.{length}
 use native.Mathlib.Omega.{arith}
 use Rattle.std.proofs.shelf.Ways.{not-from-decides}
 use Rattle.digits.proofs.Wholes.{one-whole, whole-ends, whole-made}

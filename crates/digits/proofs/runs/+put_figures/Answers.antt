@@ -1,7 +1,6 @@
-use mathlib.Core.Path.{_≡_, sym, ap, _∙_}
+use mathlib.Core.Path.{sym, ap, _∙_}
 use Prim.Native.Nat.{_+_}
 use native.Mathlib.Omega.{arith}
-use native.Mathlib.Nat.{mod-lt}
 use lib.ListN.{take}
 use Rattle.std.proofs.shelf.Decimals.{decimal-digit}
 use Rattle.std.proofs.shelf.Lists.{take-more-set}

@@ -1,4 +1,4 @@
-use mathlib.Core.Path.{_≡_, refl, sym, ap, _∙_}
+use mathlib.Core.Path.{refl, sym, ap, _∙_}
 use Rattle.std.proofs.shelf.Tests.{false≢true}
 use Rattle.fields.specs.Ranges.{between}
 use Rattle.fields.proofs.decimal.find.Needs as need
