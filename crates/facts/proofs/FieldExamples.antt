@@ -7,13 +7,13 @@ use native.Mathlib.Omega.{arith}
 use lib.Chars.{codes}
 use lib.Dec.{lit≤, lit<}
 use Rattle.std.specs.Written.{digits}
-use Rattle.fields.specs.Numerals.{Decimal}
+use Rattle.digits.specs.Numerals.{Decimal}
 use Rattle.fields.specs.Ranges.{priced, between}
 use Rattle.facts.specs.FieldSamples.{FieldSamples}
-use Rattle.fields.specs.Written.{padded}
-use Rattle.fields.proofs.Fronts.{spaces-replicate}
+use Rattle.digits.specs.Written.{padded}
+use Rattle.digits.proofs.Fronts.{spaces-replicate}
 use Rattle.fields.proofs.Ranges.{between-bounds}
-use Rattle.fields.proofs.Shapes.{plain-decimal, parted-decimal, decimal-shape, decimal-some, blank-none}
+use Rattle.digits.proofs.Shapes.{plain-decimal, parted-decimal, decimal-shape, decimal-some, blank-none}
 
 pub field-samples : FieldSamples
 unfolding digits priced

@@ -13,7 +13,7 @@ use Rattle.std.proofs.shelf.Tests.{false≢true}
 use Rattle.fields.specs.Fields.{IntegerField}
 use Rattle.fields.specs.Forms.{Paired, below, paired}
 use Rattle.fields.specs.Ranges.{between}
-use Rattle.fields.proofs.Fronts.{pow10-le, spaces-replicate}
+use Rattle.digits.proofs.Fronts.{pow10-le, spaces-replicate}
 use Rattle.fields.proofs.Tests.{each-between, paired-decides}
 use Rattle.packet.specs.Letters.{Letter, accepted, rejected, sequenced, heartbeat, explained, directory, code}
 use Rattle.packet.specs.Layouts.{PrintableTo, field}

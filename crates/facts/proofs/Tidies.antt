@@ -15,13 +15,13 @@ use Rattle.std.proofs.shelf.Tests.{cond-both, cond-false, ne-eqb, eqb-true, eqb
 use Rattle.std.proofs.shelf.Lists.{length-append, append-assoc}
 use Rattle.std.proofs.shelf.Decimals.{decimal-digit, first-decimal, decimal-value}
 use Rattle.std.proofs.shelf.Numerals.{value-short}
-use Rattle.fields.specs.Bytes.{Digit, Space}
-use Rattle.fields.specs.Numerals.{readOn, pointed, Decimal}
-use Rattle.fields.specs.Written.{decimals, written, padded}
+use Rattle.digits.specs.Bytes.{Digit, Space}
+use Rattle.digits.specs.Numerals.{readOn, pointed, Decimal}
+use Rattle.digits.specs.Written.{decimals, written, padded}
 use Rattle.facts.specs.Tidy.{Unled, Trimmed, Tidy, TidyLaws}
-use Rattle.fields.proofs.Shapes.{readOn-append}
-use Rattle.fields.proofs.Writes.{pow10-pos, decimals-step, decimals-some, decimals-none, places-pos}
-use Rattle.fields.proofs.Counts.{own, written-reads}
+use Rattle.digits.proofs.Shapes.{readOn-append}
+use Rattle.digits.proofs.Writes.{pow10-pos, decimals-step, decimals-some, decimals-none, places-pos}
+use Rattle.digits.proofs.Counts.{own, written-reads}
 
 unled-decimal : (q : ℕ) → q < 2 ^ 64 → Unled (decimal q)
 unled-decimal q f =

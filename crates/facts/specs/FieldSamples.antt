@@ -4,7 +4,7 @@ use mathlib.Core.List.{List, []}
 use Prim.Native.Nat.{ℕ}
 use lib.Chars.{codes}
 use Rattle.fields.specs.Fields.{PriceField, AmountField, QuantityField, priceText}
-use Rattle.fields.specs.Written.{padded}
+use Rattle.digits.specs.Written.{padded}
 
 -- no number has these bytes as its field
 abbrev pub None : (List ℕ → ℕ → Type 0) → List ℕ → Type 0

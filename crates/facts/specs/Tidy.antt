@@ -3,8 +3,8 @@ use mathlib.Core.Path.{_≡_}
 use mathlib.Core.List.{List, [], _∷_}
 use Prim.Native.Nat.{ℕ, _<_, _^_}
 use lib.ListN.{length, getD}
-use Rattle.fields.specs.Numerals.{Decimal}
-use Rattle.fields.specs.Written.{written, padded}
+use Rattle.digits.specs.Numerals.{Decimal}
+use Rattle.digits.specs.Written.{written, padded}
 
 -- a 0 in front stands alone
 abbrev pub Unled : List ℕ → Type 0

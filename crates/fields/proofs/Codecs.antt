@@ -1,9 +1,8 @@
 -- The laws of the fields.
 use mathlib.Core.Path.{_≡_, refl, sym, ap, subst, _∙_}
-use mathlib.Core.Bool.{true}
 use mathlib.Core.Logic.{_⊎_, inl, inr, ⊎-elim}
 use mathlib.Core.List.{List, [], _∷_, _++_}
-use Prim.Native.Nat.{ℕ, suc, zero, _+_, _-_, _^_, _≤_, _<_}
+use Prim.Native.Nat.{ℕ, _+_, _-_, _^_, _≤_, _<_}
 use native.Mathlib.Omega.{arith}
 use lib.Dec.{eqb}
 use lib.ListN.{length, getD, replicate}
@@ -22,18 +21,19 @@ use Rattle.fields.specs.declared.values.Integer.{Integer}
 use Rattle.fields.specs.declared.values.Label.{Label}
 use Rattle.fields.specs.declared.values.Pair.{Pair}
 use Rattle.fields.specs.declared.values.TimeOfDay.{TimeOfDay}
-use Rattle.fields.specs.Bytes.{Digit, Space, Printable, Letter}
-use Rattle.fields.specs.Numerals.{Decimal, DecimalField, Whole, pointed, readOn}
+use Rattle.digits.specs.Bytes.{Digit, Space}
+use Rattle.fields.specs.Bytes.{Printable}
+use Rattle.digits.specs.Numerals.{Decimal, DecimalField, Whole, pointed}
 use Rattle.fields.specs.Forms.{Labelled, Paired, Timed}
 use Rattle.fields.specs.Fields.{PriceField, AmountField, QuantityField, BlankField, IntegerField, LabelField, PairField, TimeField, priceText, amountText, quantityText, integerText}
-use Rattle.fields.specs.Written.{written, padded, justified}
+use Rattle.digits.specs.Written.{written, padded, justified}
 use Rattle.fields.specs.Calls.{Reads}
 use Rattle.fields.specs.Laws.{Codec, FieldLaws}
-use Rattle.fields.proofs.Counts.{one-count, own, written-reads}
-use Rattle.fields.proofs.Fronts.{pow10-le, spaces-replicate}
-use Rattle.fields.proofs.Shapes.{blank-none}
-use Rattle.fields.proofs.Wholes.{one-whole}
-use Rattle.fields.proofs.Puts.{length-padded, length-justified}
+use Rattle.digits.proofs.Counts.{one-count, own, written-reads}
+use Rattle.digits.proofs.Fronts.{pow10-le, spaces-replicate}
+use Rattle.digits.proofs.Shapes.{blank-none}
+use Rattle.digits.proofs.Wholes.{one-whole}
+use Rattle.digits.proofs.Puts.{length-padded, length-justified}
 use Rattle.fields.proofs.Ranges.{price-fits, price-small, amount-fits, amount-small, quantity-amount}
 use Rattle.fields.proofs.Sames.{price-same, amount-same, quantity-same, integer-same, label-same, pair-same, time-same}
 use Rattle.fields.proofs.Tests.{labelled-decides, paired-decides, timed-decides}

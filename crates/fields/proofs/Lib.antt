@@ -1,9 +1,3 @@
-pub mod Fronts
-pub mod Shapes
-pub mod Writes
-pub mod Counts
-pub mod Wholes
-pub mod Puts
 pub mod Ranges
 pub mod Sames
 pub mod Tests

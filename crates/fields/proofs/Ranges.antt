@@ -1,17 +1,17 @@
 -- What follows from the ranges of the counts. Only this file opens the range of a price.
-use mathlib.Core.Path.{_≡_, refl, sym, subst}
-use mathlib.Core.Bool.{true, false}
-use mathlib.Core.Logic.{_⊎_, inl, inr, ⊎-elim}
-use Prim.Native.Nat.{ℕ, _+_, _-_, _^_, _≤_, _<_}
+use mathlib.Core.Path.{_≡_, refl, subst}
+use mathlib.Core.Bool.{true}
+use mathlib.Core.Logic.{_⊎_, ⊎-elim}
+use Prim.Native.Nat.{ℕ, _-_, _^_, _≤_, _<_}
 use native.Mathlib.Omega.{arith}
 use lib.Dec.{lit≤}
 use lib.ListN.{length}
 use Rattle.std.specs.Written.{digits}
 use Rattle.std.proofs.shelf.Ways.{tells}
 use Rattle.std.proofs.shelf.Tests.{cases-lt}
-use Rattle.fields.specs.Written.{written}
+use Rattle.digits.specs.Written.{written}
 use Rattle.fields.specs.Ranges.{between, priced, PriceCount, AmountCount, QuantityCount}
-use Rattle.fields.proofs.Counts.{written-fits}
+use Rattle.digits.proofs.Counts.{written-fits}
 
 pub between-bounds : (least most n : ℕ) → between least most n ≡ true → (least ≤ n) × (n ≤ most)
 between-bounds least most n h = (grind (arith, tells), grind (arith, tells))

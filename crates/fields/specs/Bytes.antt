@@ -1,12 +1,5 @@
--- The kinds of bytes that fields are made of.
-use mathlib.Core.Path.{_≡_}
+-- The kinds of bytes that fields are made of, besides those of numbers.
 use Prim.Native.Nat.{ℕ, _≤_}
-
-abbrev pub Digit : ℕ → Type 0
-Digit c = (48 ≤ c) × (c ≤ 57)
-
-abbrev pub Space : ℕ → Type 0
-Space c = c ≡ 32
 
 -- A to Z
 abbrev pub Letter : ℕ → Type 0

@@ -8,10 +8,10 @@ use lib.Dec.{eqb}
 use lib.ListN.{length}
 use Rattle.std.specs.shelf.Lists.{All}
 use Rattle.std.specs.Written.{decimal}
-use Rattle.fields.specs.Bytes.{Space}
-use Rattle.fields.specs.Numerals.{DecimalField, Whole}
+use Rattle.digits.specs.Bytes.{Space}
+use Rattle.digits.specs.Numerals.{DecimalField, Whole}
 use Rattle.fields.specs.Ranges.{PriceCount, AmountCount, QuantityCount, IntegerValue}
-use Rattle.fields.specs.Written.{written, padded, justified}
+use Rattle.digits.specs.Written.{written, padded, justified}
 use Rattle.fields.specs.Forms.{Labelled, Paired, Timed}
 
 -- 10 bytes, at most five decimals

@@ -5,7 +5,8 @@ use mathlib.Core.Bool.{Bool, true, not, _&&_}
 use Prim.Native.Nat.{ℕ, suc, zero, _+_, _-_, _*_, _≤_, _<_}
 use lib.Dec.{eqb, ltb, leb}
 use lib.ListN.{length, getD}
-use Rattle.fields.specs.Bytes.{Digit, Letter, Printable}
+use Rattle.digits.specs.Bytes.{Digit}
+use Rattle.fields.specs.Bytes.{Letter, Printable}
 use Rattle.fields.specs.Ranges.{between}
 
 -- n printable bytes, the first no space

@@ -1,7 +1,6 @@
 // The fields of the line: each value is made from the bytes of its field, or refused, and is written back to them.
 mod bytes;
 mod decimal;
-mod digits;
 mod fault;
 mod integer;
 pub mod laws;

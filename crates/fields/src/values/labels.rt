@@ -12,7 +12,7 @@ use crate::fault::Fault;
 fn labelled(s: &[u8], n: usize) -> bool
     ensures { λ r. ⌜ Decides r (Labelled n (now (s .entry))) ⌝ }
 {
-    if s.len() != n || n == 0 || bytes::is_space(s[0]) {
+    if s.len() != n || n == 0 || digits::is_space(s[0]) {
         return false;
     }
     for b in s {

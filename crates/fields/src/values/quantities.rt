@@ -7,7 +7,6 @@ ghost use Rattle.fields.specs.Ranges.{QuantityCount};
 use super::Quantity;
 use crate::bytes;
 use crate::decimal;
-use crate::digits;
 use crate::fault::Fault;
 
 const WIDTH: usize = 16;

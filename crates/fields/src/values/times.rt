@@ -3,7 +3,7 @@ ghost use mathlib.Core.Path.{_≡_};
 ghost use Prim.Native.Nat.{ℕ, _+_, _<_, _≤_};
 ghost use lib.ListN.{length, getD};
 ghost use Rattle.std.specs.Orderings.{Decides};
-ghost use Rattle.fields.specs.Bytes.{Digit};
+ghost use Rattle.digits.specs.Bytes.{Digit};
 ghost use Rattle.fields.specs.Calls.{Reads, Writes};
 ghost use Rattle.fields.specs.Fields.{TimeField};
 ghost use Rattle.fields.specs.Forms.{Timed, two};

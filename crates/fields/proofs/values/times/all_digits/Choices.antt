@@ -1,6 +1,6 @@
 use Prim.Native.Nat.{ℕ, _<_}
 use lib.ListN.{getD}
-use Rattle.fields.specs.Bytes.{Digit}
+use Rattle.digits.specs.Bytes.{Digit}
 use Rattle.fields.proofs.values.times.all_digits.Given as given
 
 abbrev pub Inv-loop-b : given.InvT-loop-b

@@ -1,0 +1,4 @@
+pub mod Bytes
+pub mod Numerals
+pub mod Written
+pub mod Calls
