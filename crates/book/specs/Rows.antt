@@ -7,7 +7,7 @@ use Rattle.std.proofs.shelf.Tests.{and-parts}
 use Rattle.std.specs.declared.option.Option.{Option}
 use Rattle.std.specs.declared.option.Option.the-variants.{Some, None}
 use Rattle.fields.specs.Forms.{paired, labelled}
-use Rattle.fields.specs.Ranges.{between, priced, PriceCount, AmountCount}
+use Rattle.fields.specs.Ranges.{amounted, priced, PriceCount, AmountCount}
 use Rattle.book.specs.declared.order.Order.{Order}
 use Rattle.book.specs.declared.row.Row.{Row}
 
@@ -20,7 +20,7 @@ pub record Formed {R : Type 0} (r : Row R) : Type 0 where
 
 -- the same as a test
 abbrev pub formed : {R : Type 0} → Row R → Bool
-formed r = paired (r .pair) && (labelled 15 (r .id) && (priced (r .price) && between 1 1000000000000000 (r .amount)))
+formed r = paired (r .pair) && (labelled 15 (r .id) && (priced (r .price) && amounted (r .amount)))
 
 abbrev pub allFormed : {R : Type 0} → List (Row R) → Bool
 allFormed [] = true

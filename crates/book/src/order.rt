@@ -29,7 +29,7 @@ pub trait Terms: Copy {
         ensures { λ r. ⌜ r ≡ given plain ⌝ };
 }
 
-#[derive(Copy)]
+#[derive(Clone, Copy)]
 pub struct Order<T> {
     pub pair: Pair,
     pub side: Side,

@@ -1,7 +1,7 @@
 // The plain row of an order, as it lies in a slot.
 use crate::order::Side;
 
-#[derive(Copy)]
+#[derive(Clone, Copy)]
 pub struct Row<R> {
     pub pair: [u8; 7],
     pub side: Side,

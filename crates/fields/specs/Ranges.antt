@@ -8,7 +8,8 @@ use lib.Dec.{leb}
 abbrev pub between : ℕ → ℕ → ℕ → Bool
 between least most n = leb least n && leb n most
 
--- a price, in hundred-thousandths: 0.00001 to 9,999.99999. Only proofs/Ranges opens this definition.
+-- a price, in hundred-thousandths: 0.00001 to 9,999.99999. Clients use its laws in proofs/Ranges; besides these only the
+-- search for a price's count and the examples open it.
 unfoldable pub priced : ℕ → Bool
 priced n = between 1 999999999 n
 
@@ -16,8 +17,11 @@ abbrev pub PriceCount : ℕ → Type 0
 PriceCount n = priced n ≡ true
 
 -- an amount, in hundredths: 0.01 to 10,000,000,000,000
+abbrev pub amounted : ℕ → Bool
+amounted n = between 1 1000000000000000 n
+
 abbrev pub AmountCount : ℕ → Type 0
-AmountCount n = between 1 1000000000000000 n ≡ true
+AmountCount n = amounted n ≡ true
 
 -- a quantity, in hundredths: an amount, or 0 for no restriction
 abbrev pub QuantityCount : ℕ → Type 0
