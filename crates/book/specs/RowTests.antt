@@ -1,4 +1,4 @@
--- The tests of orders, asked of their rows; and searches among rows.
+-- The tests of orders, asked of their rows; and the rows that are found by them.
 use Prim.Native.Nat.{ℕ, _≤_, _<_}
 use mathlib.Core.Path.{_≡_}
 use mathlib.Core.Bool.{Bool, true, false, cond, not, _&&_}

@@ -1,12 +1,12 @@
 // The book of standing orders, a part that knows nothing of packets.
 mod compare;
+mod finder;
 mod ladder;
 pub mod laws;
 mod order;
 mod packed;
 mod row;
 mod rows;
-mod search;
 
 pub use ladder::Book;
 pub use ladder::BookFault;

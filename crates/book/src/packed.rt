@@ -6,6 +6,7 @@ ghost use lib.Dec.{leb};
 ghost use Rattle.std.specs.Of.Vec.{vec-items, vec-len, vec-cap};
 ghost use Rattle.book.specs.Ladder.{inOrder, apart};
 ghost use Rattle.book.specs.Rows.{allFormed, orders};
+use crate::finder;
 use crate::ladder::Book;
 use crate::ladder::BookFault;
 use crate::ladder::MadeBook;
@@ -20,7 +21,6 @@ use crate::rows::Named;
 use crate::rows::NamedTest;
 use crate::rows::OfPair;
 use crate::rows::OfPairTest;
-use crate::search;
 use fields::Amount;
 use fields::OrderId;
 use fields::Pair;
@@ -54,7 +54,7 @@ pub impl<T: Terms> Book<T> for PackedBook<T> as PackedBookBook {
     ghost ladder = { λ b. orders (T·Terms .given) (vec-items (b .rows)) (b .formed) };
 
     fn place(&mut self, order: &Order<T>) -> Result<(), BookFault> {
-        if search::first(
+        if finder::first(
             &self.rows,
             &Named {
                 pair: order.pair,
@@ -66,7 +66,7 @@ pub impl<T: Terms> Book<T> for PackedBook<T> as PackedBookBook {
         if is_full(self.len(), self.capacity()) {
             return Err(BookFault::Full);
         }
-        let at = search::place_for(&self.rows, order);
+        let at = finder::place_for(&self.rows, order);
         let row = rows::row_of(order);
         // There is a slot left, so this takes no memory.
         let _ = self.rows.insert(at, row);
@@ -80,7 +80,7 @@ pub impl<T: Terms> Book<T> for PackedBook<T> as PackedBookBook {
         amount: Amount,
         terms: T,
     ) -> Result<(), BookFault> {
-        let Some(k) = search::first(&self.rows, &Named { pair, id }) else {
+        let Some(k) = finder::first(&self.rows, &Named { pair, id }) else {
             return Err(BookFault::NotStanding);
         };
         let row = rows::reset_row(&self.rows[k], amount, terms);
@@ -89,19 +89,19 @@ pub impl<T: Terms> Book<T> for PackedBook<T> as PackedBookBook {
     }
 
     fn remove(&mut self, pair: Pair, id: OrderId) -> Result<(), BookFault> {
-        let Some(k) = search::first(&self.rows, &Named { pair, id }) else {
+        let Some(k) = finder::first(&self.rows, &Named { pair, id }) else {
             return Err(BookFault::NotStanding);
         };
-        search::take_out(&mut self.rows, k);
+        finder::take_out(&mut self.rows, k);
         Ok(())
     }
 
     fn clear(&mut self, pair: Pair) {
-        search::take_off(&mut self.rows, &OfPair(pair));
+        finder::take_off(&mut self.rows, &OfPair(pair));
     }
 
     fn len(&self) -> usize {
-        search::count(&self.rows)
+        finder::count(&self.rows)
     }
 
     fn capacity(&self) -> usize {
@@ -109,18 +109,18 @@ pub impl<T: Terms> Book<T> for PackedBook<T> as PackedBookBook {
     }
 
     fn at(&self, rank: usize) -> Option<Order<T>> {
-        match search::row_at(&self.rows, rank) {
+        match finder::row_at(&self.rows, rank) {
             Some(row) => rows::order_of(&row),
             None => None,
         }
     }
 
     fn rank_of(&self, pair: Pair, id: OrderId) -> Option<usize> {
-        search::first(&self.rows, &Named { pair, id })
+        finder::first(&self.rows, &Named { pair, id })
     }
 
     fn rank_at(&self, pair: Pair, side: Side, price: Price) -> Option<usize> {
-        search::first(&self.rows, &AtLevel { pair, side, price })
+        finder::first(&self.rows, &AtLevel { pair, side, price })
     }
 }
 

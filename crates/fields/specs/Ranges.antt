@@ -8,8 +8,8 @@ use lib.Dec.{leb}
 abbrev pub between : ℕ → ℕ → ℕ → Bool
 between least most n = leb least n && leb n most
 
--- a price, in hundred-thousandths: 0.00001 to 9,999.99999. Clients use its laws in proofs/Ranges; besides these only the
--- search for a price's count and the examples open it.
+-- a price, in hundred-thousandths: 0.00001 to 9,999.99999. Clients use its laws in proofs/Ranges; besides these only
+-- the reading of a price's count and the examples open it.
 unfoldable pub priced : ℕ → Bool
 priced n = between 1 999999999 n
 

@@ -5,8 +5,8 @@ use lib.ListN.{length}
 use Rattle.std.specs.Of.Vec.{vec-items, vec-cap}
 use Rattle.std.proofs.shelf.Filters.{keeping-all}
 use Rattle.book.proofs.Taking.{stays, goes}
-use Rattle.book.proofs.search.take_off.Needs as need
-use Rattle.book.proofs.search.take_off.Needs.{then-not-passes, else-not-passes}
+use Rattle.book.proofs.finder.take_off.Needs as need
+use Rattle.book.proofs.finder.take_off.Needs.{then-not-passes, else-not-passes}
 
 pub loop-at-again : need.loop-at-again
 loop-at-again g c =

@@ -2,7 +2,7 @@ use mathlib.Core.Path.{_≡_}
 use mathlib.Core.Bool.{not}
 use Rattle.std.specs.Of.Vec.{vec-items, vec-cap}
 use Rattle.std.proofs.shelf.Filters.{Keeping}
-use Rattle.book.proofs.search.take_off.Given as given
+use Rattle.book.proofs.finder.take_off.Given as given
 
 abbrev pub Inv-loop-at : given.InvT-loop-at
 Inv-loop-at g l =

@@ -1,4 +1,4 @@
-// Searches among rows, and rows taken off.
+// Rows found and rows taken off.
 ghost use mathlib.Core.Path.{_≡_};
 ghost use mathlib.Core.Bool.{not};
 ghost use Prim.Native.Nat.{_+_, _≤_, _<_};
