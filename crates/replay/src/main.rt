@@ -4,6 +4,8 @@ mod events;
 mod filling;
 mod held;
 mod taking;
+#[cfg(test)]
+mod tests;
 
 use cutter::Answer;
 use cutter::Cutter;
