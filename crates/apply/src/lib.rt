@@ -1,4 +1,6 @@
 // Any message of a venue: read exactly as laid out, and applied to any book exactly as meant.
+#![tactic(auto)]
+
 mod any;
 pub mod laws;
 mod listing;

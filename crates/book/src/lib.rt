@@ -1,4 +1,6 @@
 // The book of standing orders, a part that knows nothing of packets.
+#![tactic(auto)]
+
 mod compare;
 mod finder;
 mod ladder;

@@ -1,4 +1,6 @@
 // Packed books worked through fixed lists of calls: each line is a call's answer and the ladder after it.
+#![tactic(auto)]
+
 ghost use Rattle.std.specs.Prelude.{◌≡◌, min, IfOk};
 ghost use Rattle.std.proofs.Common.{rules};
 

@@ -1,4 +1,6 @@
 // What a stream of packets means, and what holds over whole days of calls.
+#![tactic(auto)]
+
 mod events;
 mod faults;
 mod state;

@@ -1,4 +1,6 @@
 // Decimals and integers of any width, as they stand in the bytes of a field.
+#![tactic(auto)]
+
 mod bytes;
 mod decimal;
 mod integer;

@@ -1,4 +1,6 @@
 // Facts about the definitions, each list the contract of a function that has nothing to do.
+#![tactic(auto)]
+
 ghost use Rattle.facts.specs.Facts.{Facts};
 ghost use Rattle.facts.specs.Tidy.{TidyLaws};
 

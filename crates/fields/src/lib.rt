@@ -1,4 +1,6 @@
 // The fields of the line: each value is made from the bytes of its field, or refused, and is written back to them.
+#![tactic(auto)]
+
 mod bytes;
 mod decimal;
 mod fault;

@@ -1,4 +1,6 @@
 // The messages on one order, read exactly as a venue lays them out; and why a message is refused.
+#![tactic(auto)]
+
 mod fault;
 pub mod laws;
 mod messages;

@@ -1,4 +1,6 @@
 // What the messages on one order do to a book of any kind.
+#![tactic(auto)]
+
 mod applying;
 pub mod laws;
 mod naming;

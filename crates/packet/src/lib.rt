@@ -1,4 +1,6 @@
 // The form of a packet: by its letter, which lengths it may have and which fields stand where.
+#![tactic(auto)]
+
 mod directories;
 mod heads;
 pub mod laws;

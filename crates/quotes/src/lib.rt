@@ -1,4 +1,6 @@
 // Quotes kept in a book of any kind. This crate sees the book's promises only.
+#![tactic(auto)]
+
 ghost use Rattle.std.specs.Prelude.{◌≡◌, ◌<◌, min, [], ◌∷◌, IfOk};
 ghost use Rattle.quotes.specs.Quotes.{Requote};
 

@@ -1,4 +1,6 @@
 // What the bytes of each field read as, and the trait by which a layout reads any field.
+#![tactic(auto)]
+
 mod counts;
 mod field;
 mod integers;

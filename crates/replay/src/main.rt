@@ -1,4 +1,6 @@
 // Cuts a recording at each LF and prints one line for each packet.
+#![tactic(auto)]
+
 mod cutter;
 mod events;
 mod filling;

@@ -1,4 +1,6 @@
 // Snapshots: what they list, read exactly as a venue lays them out.
+#![tactic(auto)]
+
 mod checks;
 pub mod laws;
 mod mark;

@@ -1,4 +1,6 @@
 // The venues: which terms an order has there, and the tail that carries them in a message.
+#![tactic(auto)]
+
 mod basic;
 mod full;
 mod kind;

@@ -1,11 +1,11 @@
 // Integer fields.
-ghost use Rattle.std.specs.Prelude.{◌≡◌, Decides};
+ghost use Rattle.std.specs.Prelude.{◌≡◌, Decides, ◌==◌};
 ghost use Rattle.fields.specs.Calls.{Makes, Reads, Writes};
 ghost use Rattle.fields.specs.Fields.{IntegerField, integer_text};
 ghost use Rattle.fields.specs.Ranges.{IntegerValue};
 ghost use Rattle.std.specs.Cmp.Rules.{comparing};
-ghost use Rattle.std.proofs.Common.{rules, arith};
-ghost use Rattle.std.specs.Cmp as Keys;
+ghost use Rattle.std.proofs.Common.{rules};
+ghost use Rattle.std.specs.Ordering.{on};
 
 use super::Integer;
 use crate::fault::Fault;
@@ -49,15 +49,18 @@ impl<const W: usize> Integer<W> {
 }
 
 impl<const W: usize> PartialEq for Integer<W> {
-    ghost equals = { λ a b r. Decides r (a ≡ b) };
+    ghost eq = { on (λ v. v.value) ◌==◌ };
 
-    ghost laws = { Keys.partial_equiv_from_equiv (first_of (Prim.search (comparing, rules), Prim.grind (arith, Self.row.coded.inj))) };
+    ghost laws = { Prim.search (comparing, rules) };
 
-    fn eq(&self, other: &Integer<W>) -> bool {
+    fn eq(&self, other: &Integer<W>) -> bool
+        ensures value { result ≡ (self.now.value == other.now.value) }
+        ensures same { Decides result (self.now ≡ other.now) }
+    {
         bytes::same_count(self.value, other.value)
     }
 }
 
 impl<const W: usize> Eq for Integer<W> {
-    ghost laws = { first_of (Prim.search (comparing, rules), Prim.grind (arith, Self.row.coded.inj)) };
+    ghost laws = { Prim.search (comparing, rules) };
 }

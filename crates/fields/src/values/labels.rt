@@ -1,11 +1,12 @@
 // Order ids and makers.
-ghost use Rattle.std.specs.Prelude.{◌≡◌, Decides};
+ghost use Rattle.std.specs.Prelude.{◌≡◌, Decides, ◌==◌};
 ghost use Rattle.fields.specs.Calls.{Reads, Writes};
 ghost use Rattle.fields.specs.Fields.{LabelField};
 ghost use Rattle.fields.specs.Forms.{Labelled};
 ghost use Rattle.std.specs.Cmp.Rules.{comparing};
-ghost use Rattle.std.proofs.Common.{rules, arith};
-ghost use Rattle.std.specs.Cmp as Keys;
+ghost use Rattle.std.proofs.Common.{rules};
+ghost use Rattle.std.specs.Ordering.{on};
+ghost use Rattle.std.specs.Cmp.Lexicographic.{pointwise};
 
 use super::Label;
 use crate::bytes;
@@ -57,15 +58,18 @@ impl<const N: usize> Label<N> {
 
 // Equal only if all bytes agree.
 impl<const N: usize> PartialEq for Label<N> {
-    ghost equals = { λ a b r. Decides r (a ≡ b) };
+    ghost eq = { on (λ v. v.bytes) (pointwise ◌==◌) };
 
-    ghost laws = { Keys.partial_equiv_from_equiv (first_of (Prim.search (comparing, rules), Prim.grind (arith, Self.row.coded.inj))) };
+    ghost laws = { Prim.search (comparing, rules) };
 
-    fn eq(&self, other: &Label<N>) -> bool {
+    fn eq(&self, other: &Label<N>) -> bool
+        ensures value { result ≡ pointwise ◌==◌ self.now.bytes other.now.bytes }
+        ensures same { Decides result (self.now ≡ other.now) }
+    {
         bytes::same_bytes(&self.bytes, &other.bytes)
     }
 }
 
 impl<const N: usize> Eq for Label<N> {
-    ghost laws = { first_of (Prim.search (comparing, rules), Prim.grind (arith, Self.row.coded.inj)) };
+    ghost laws = { Prim.search (comparing, rules) };
 }

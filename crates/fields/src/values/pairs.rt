@@ -1,13 +1,13 @@
 // Currency pairs.
-ghost use Rattle.std.specs.Prelude.{◌≡◌, ◌<◌, Decides};
-ghost use Rattle.std.specs.Ordering.{MatchOrdering};
-ghost use Rattle.std.specs.Cmp.Lexicographic.{Lex};
+ghost use Rattle.std.specs.Prelude.{◌≡◌, Decides, ◌==◌};
 ghost use Rattle.fields.specs.Calls.{Reads, Writes};
 ghost use Rattle.fields.specs.Fields.{PairField};
 ghost use Rattle.fields.specs.Forms.{Paired};
 ghost use Rattle.std.specs.Cmp.Rules.{comparing};
-ghost use Rattle.std.proofs.Common.{rules, arith};
-ghost use Rattle.std.specs.Cmp as Keys;
+ghost use Rattle.std.proofs.Common.{rules};
+ghost use Rattle.std.specs.Ordering.{as_partial_cmp, nat_cmp, on};
+ghost use Rattle.std.specs.Cmp.{partial_order_from_own_ties};
+ghost use Rattle.std.specs.Cmp.Lexicographic.{pointwise, slice_cmp};
 
 use super::Pair;
 use crate::bytes;
@@ -58,21 +58,26 @@ impl Pair {
 }
 
 impl PartialEq for Pair {
-    ghost equals = { λ a b r. Decides r (a ≡ b) };
+    ghost eq = { on (λ v. v.bytes) (pointwise ◌==◌) };
 
-    ghost laws = { Keys.partial_equiv_from_equiv (first_of (Prim.search (comparing, rules), Prim.grind (arith, Self.row.coded.inj))) };
+    ghost laws = { Prim.search (comparing, rules) };
 
-    fn eq(&self, other: &Pair) -> bool {
+    fn eq(&self, other: &Pair) -> bool
+        ensures value { result ≡ pointwise ◌==◌ self.now.bytes other.now.bytes }
+        ensures same { Decides result (self.now ≡ other.now) }
+    {
         bytes::same_bytes(&self.bytes, &other.bytes)
     }
 }
 
 impl Eq for Pair {
-    ghost laws = { first_of (Prim.search (comparing, rules), Prim.grind (arith, Self.row.coded.inj)) };
+    ghost laws = { Prim.search (comparing, rules) };
 }
 
 impl PartialOrd for Pair {
-    ghost laws = { first_of (Prim.search (comparing, rules), Prim.grind (arith, Self.row.coded.inj)) };
+    ghost partial_cmp = { as_partial_cmp (on (λ v. v.bytes) (slice_cmp nat_cmp)) };
+
+    ghost laws = { partial_order_from_own_ties (Prim.search (comparing, rules)) (Prim.search (comparing, rules)) };
 
     fn partial_cmp(&self, other: &Pair) -> Option<Ordering> {
         Some(self.cmp(other))
@@ -81,13 +86,13 @@ impl PartialOrd for Pair {
 
 // In byte order: the first byte that differs decides.
 impl Ord for Pair {
-    ghost orders = { λ a b. Lex (λ x y o. MatchOrdering o (x < y) (x ≡ y) (y < x)) a.bytes b.bytes };
+    ghost cmp = { on (λ v. v.bytes) (slice_cmp nat_cmp) };
 
-    ghost total = { first_of (Prim.search (comparing, rules), Prim.grind (arith, Self.row.coded.inj)) };
+    ghost total = { Prim.search (comparing, rules) };
 
-    ghost matches_partial_cmp = { first_of (Prim.search (comparing, rules), Prim.grind (arith, Self.row.coded.inj)) };
+    ghost matches_partial_cmp = { Prim.search (comparing, rules) };
 
-    ghost matches_eq = { first_of (Prim.search (comparing, rules), Prim.grind (arith, Self.row.coded.inj)) };
+    ghost matches_eq = { Prim.search (comparing, rules) };
 
     fn cmp(&self, other: &Pair) -> Ordering {
         Ord::cmp(&self.bytes, &other.bytes)

@@ -1,11 +1,11 @@
 // Prices.
-ghost use Rattle.std.specs.Prelude.{◌≡◌, Decides};
+ghost use Rattle.std.specs.Prelude.{◌≡◌, Decides, ◌==◌};
 ghost use Rattle.fields.specs.Calls.{Finds, Makes, Reads, Writes};
 ghost use Rattle.fields.specs.Fields.{PriceField, price_text};
 ghost use Rattle.fields.specs.Ranges.{priced, PriceCount};
 ghost use Rattle.std.specs.Cmp.Rules.{comparing};
-ghost use Rattle.std.proofs.Common.{rules, arith};
-ghost use Rattle.std.specs.Cmp as Keys;
+ghost use Rattle.std.proofs.Common.{rules};
+ghost use Rattle.std.specs.Ordering.{on};
 
 use super::Price;
 use crate::fault::Fault;
@@ -71,15 +71,18 @@ impl Price {
 }
 
 impl PartialEq for Price {
-    ghost equals = { λ a b r. Decides r (a ≡ b) };
+    ghost eq = { on (λ v. v.count) ◌==◌ };
 
-    ghost laws = { Keys.partial_equiv_from_equiv (first_of (Prim.search (comparing, rules), Prim.grind (arith, Self.row.coded.inj))) };
+    ghost laws = { Prim.search (comparing, rules) };
 
-    fn eq(&self, other: &Price) -> bool {
+    fn eq(&self, other: &Price) -> bool
+        ensures value { result ≡ (self.now.count == other.now.count) }
+        ensures same { Decides result (self.now ≡ other.now) }
+    {
         bytes::same_count(self.count, other.count)
     }
 }
 
 impl Eq for Price {
-    ghost laws = { first_of (Prim.search (comparing, rules), Prim.grind (arith, Self.row.coded.inj)) };
+    ghost laws = { Prim.search (comparing, rules) };
 }

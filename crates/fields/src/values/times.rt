@@ -1,12 +1,13 @@
 // Times of day.
-ghost use Rattle.std.specs.Prelude.{◌≡◌, ℕ, ◌+◌, ◌<◌, ◌≤◌, length, Decides, slice_index};
+ghost use Rattle.std.specs.Prelude.{◌≡◌, ℕ, ◌+◌, ◌<◌, ◌≤◌, length, Decides, slice_index, ◌==◌};
 ghost use Rattle.digits.specs.Bytes.{Digit};
 ghost use Rattle.fields.specs.Calls.{Reads, Writes};
 ghost use Rattle.fields.specs.Fields.{TimeField};
 ghost use Rattle.fields.specs.Forms.{Timed, two};
 ghost use Rattle.std.specs.Cmp.Rules.{comparing};
-ghost use Rattle.std.proofs.Common.{rules, arith};
-ghost use Rattle.std.specs.Cmp as Keys;
+ghost use Rattle.std.proofs.Common.{rules};
+ghost use Rattle.std.specs.Ordering.{on};
+ghost use Rattle.std.specs.Cmp.Lexicographic.{pointwise};
 
 use super::TimeOfDay;
 use crate::bytes;
@@ -64,15 +65,18 @@ impl TimeOfDay {
 }
 
 impl PartialEq for TimeOfDay {
-    ghost equals = { λ a b r. Decides r (a ≡ b) };
+    ghost eq = { on (λ v. v.bytes) (pointwise ◌==◌) };
 
-    ghost laws = { Keys.partial_equiv_from_equiv (first_of (Prim.search (comparing, rules), Prim.grind (arith, Self.row.coded.inj))) };
+    ghost laws = { Prim.search (comparing, rules) };
 
-    fn eq(&self, other: &TimeOfDay) -> bool {
+    fn eq(&self, other: &TimeOfDay) -> bool
+        ensures value { result ≡ pointwise ◌==◌ self.now.bytes other.now.bytes }
+        ensures same { Decides result (self.now ≡ other.now) }
+    {
         bytes::same_bytes(&self.bytes, &other.bytes)
     }
 }
 
 impl Eq for TimeOfDay {
-    ghost laws = { first_of (Prim.search (comparing, rules), Prim.grind (arith, Self.row.coded.inj)) };
+    ghost laws = { Prim.search (comparing, rules) };
 }

@@ -26,6 +26,6 @@ pub returns-in-V : goal.returns-in-V
 unfolding message_of
 returns-in-V g c = search rules
 
-pub returns-in-default : goal.returns-in-default
+pub returns-in_default : goal.returns-in_default
 unfolding message_of
-returns-in-default g c = search rules
+returns-in_default g c = search rules

@@ -7,4 +7,4 @@ pub returns : goal.returns
 returns g c =
     let F = g.V.Venue.form in
     let m = c.args.m.now in
-    record { reads = c.read-any.ensures; exact = subst (Exactly F m) (sym c.read-any.ensures) (exactly F m) }
+    record { reads = c.read_any.ensures; exact = subst (Exactly F m) (sym c.read_any.ensures) (exactly F m) }

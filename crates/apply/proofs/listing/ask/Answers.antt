@@ -3,11 +3,11 @@ use Rattle.snapshot.specs.Listing.{pairs_listed}
 use Rattle.apply.proofs.Tallies.{right_same}
 use Rattle.apply.proofs.listing.ask.Goals as goal
 
-pub returns-then-same-pair : goal.returns-then-same-pair
-returns-then-same-pair g c = record {
+pub returns-then-same_pair : goal.returns-then-same_pair
+returns-then-same_pair g c = record {
   pair = refl;
-  right = λ ms e h r. right_same (pairs_listed ms) c.args.last c.in-Some.asked c.args.pair c.in-Some.is (sym c.same_pair_self.ensures ∙ c.if-same-pair.true) r;
+  right = λ ms e h r. right_same (pairs_listed ms) c.args.last c.in-Some.asked c.args.pair c.in-Some.is (sym c.same_pair_self.ensures ∙ c.if-same_pair.true) r;
 }
 
 pub returns : goal.returns
-returns g c = record { pair = refl; right = λ ms e h r. c.is-listed.ensures ms e h }
+returns g c = record { pair = refl; right = λ ms e h r. c.is_listed.ensures ms e h }

@@ -9,6 +9,6 @@ returns g c =
     let F = g.V.Venue.form in
     let m = c.args.m.now in
     let small : length c.args.m.now < 2 ^ 64 = search rules in
-    tally_done (snapshot_of F m) _ c.visit-marks.new.state c.in-ok-visit-marks.ensures.answer (λ ms e h.
+    tally_done (snapshot_of F m) _ c.visit_marks.new.state c.in_ok-visit_marks.ensures.answer (λ ms e h.
     let few = few_marks F m ms e h in
-    counted_all c.visit-marks.new.state ms (omega arith) (c.visit-marks.ensures.done ms e h))
+    counted_all c.visit_marks.new.state ms (omega arith) (c.visit_marks.ensures.done ms e h))

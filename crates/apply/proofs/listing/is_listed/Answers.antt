@@ -3,4 +3,4 @@ use Rattle.apply.proofs.Tallies.{seek_runs}
 use Rattle.apply.proofs.listing.is_listed.Goals as goal
 
 pub returns : goal.returns
-returns g c ms e h = seek_runs (record { pair = c.args.pair; listed = false }) c.visit-marks.new.state ms (c.visit-marks.ensures.done ms e h)
+returns g c ms e h = seek_runs (record { pair = c.args.pair; listed = false }) c.visit_marks.new.state ms (c.visit_marks.ensures.done ms e h)

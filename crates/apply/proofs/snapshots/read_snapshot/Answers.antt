@@ -8,16 +8,16 @@ use Rattle.apply.proofs.snapshots.read_snapshot.Goals as goal
 pub returns-then-m-lt7 : goal.returns-then-m-lt7
 returns-then-m-lt7 g c = sym (ap summed (short_so g.V.Venue.form c.args.m.now c.if-m-lt7.true))
 
-pub returns-then-is-blank : goal.returns-then-is-blank
-returns-then-is-blank g c = sym (ap summed (blank_so g.V.Venue.form c.args.m.now c.if-m-lt7.false (sym c.if-is-blank.ensures)))
+pub returns-then-is_blank : goal.returns-then-is_blank
+returns-then-is_blank g c = sym (ap summed (blank_so g.V.Venue.form c.args.m.now c.if-m-lt7.false (sym c.if-is_blank.ensures)))
 
-pub returns-in-err-counts : goal.returns-in-err-counts
-returns-in-err-counts g c =
+pub returns-in_err-counts : goal.returns-in_err-counts
+returns-in_err-counts g c =
     let p = err_from_is_err_and c.from-residual.result c.from-residual.ensures.1 in
-    let e = fault_so g.V.Venue.form c.args.m.now _ c.if-m-lt7.false (sym c.if-is-blank.ensures) (sym c.check.ensures ∙ c.in-err-counts.was) in
+    let e = fault_so g.V.Venue.form c.args.m.now _ c.if-m-lt7.false (sym c.if-is_blank.ensures) (sym c.check.ensures ∙ c.in_err-counts.was) in
     p.1 ∙ ap Err p.2 ∙ sym (ap summed e)
 
 pub returns : goal.returns
 returns g c =
-    let so = listed_so g.V.Venue.form c.args.m.now c.in-ok-counts.counts c.if-m-lt7.false (sym c.if-is-blank.ensures) (sym c.check.ensures ∙ c.in-ok-counts.was) in
+    let so = listed_so g.V.Venue.form c.args.m.now c.in_ok-counts.counts c.if-m-lt7.false (sym c.if-is_blank.ensures) (sym c.check.ensures ∙ c.in_ok-counts.was) in
     ap (λ k. Ok (Snapshot k)) so.pairs ∙ sym (ap summed so.said)

@@ -7,26 +7,26 @@ use Rattle.book.specs.Rows.{order_of_lem, Formed}
 use Rattle.book.specs.Packing.{same_order}
 use Rattle.book.proofs.rows.order_of.Goals as goal
 
-pub returns-in-default : goal.returns-in-default
-returns-in-default g c = λ f.
+pub returns-in_default : goal.returns-in_default
+returns-in_default g c = λ f.
     let bs = c.args.row.now.pair in
-    c.in-default.ensures.1 bs ((paired_decides bs).0 f.pair, refl)
+    c.in_default.ensures.1 bs ((paired_decides bs).0 f.pair, refl)
 
-pub returns-in-default-read : goal.returns-in-default-read
-returns-in-default-read g c = λ f.
+pub returns-in_default-read : goal.returns-in_default-read
+returns-in_default-read g c = λ f.
     let bs = c.args.row.now.id in
-    c.in-default-read.ensures.1 bs ((labelled_decides 15 bs).0 f.id, refl)
+    c.in_default-read.ensures.1 bs ((labelled_decides 15 bs).0 f.id, refl)
 
 pub returns : goal.returns
 returns g c =
     let pair = c.in-Ok.pair in
     let id = c.in-Ok-read.id in
-    let price = c.in-ok-price.price in
-    let amount = c.in-ok-amount.amount in
+    let price = c.in_ok-price.price in
+    let amount = c.in_ok-amount.amount in
     let pair_is = c.in-Ok.ensures.1 in
     let id-is = c.in-Ok-read.ensures.1 in
-    let price-is = c.in-ok-price.ensures in
-    let amount-is = c.in-ok-amount.ensures in
+    let price-is = c.in_ok-price.ensures in
+    let amount-is = c.in_ok-amount.ensures in
     let f : Formed c.args.row.now = record {
       pair = subst (λ z. paired z ≡ true) pair_is pair.ok;
       id = subst (λ z. labelled 15 z ≡ true) id-is id.ok;
@@ -34,4 +34,4 @@ returns g c =
       amount = subst AmountCount amount-is amount.ok;
     } in
     let o = order_of_lem g.T.Terms.given c.args.row.now f in
-    (f, same_order _ o (pair_same pair o.pair pair_is) refl (label_same 15 id o.id id-is) (price_same price o.price price-is) (amount_same amount o.amount amount-is) c.from-row-terms.ensures)
+    (f, same_order _ o (pair_same pair o.pair pair_is) refl (label_same 15 id o.id id-is) (price_same price o.price price-is) (amount_same amount o.amount amount-is) c.from_row-terms.ensures)

@@ -7,18 +7,18 @@ use Rattle.digits.proofs.decimal.put_decimals.Goals.{After-pow-unit}
 some : (c : After-pow-unit) → 0 < c.loop-rest.left
 some c = places_pos c.loop-rest.left c.loop-rest.rest c.loop-rest.invariant.0 c.loop-rest-test.true
 
-pub nonzero-div-rest : goal.nonzero-div-rest
-nonzero-div-rest c = unit_pos c.loop-rest.left c.loop-rest.rest _ c.pow-unit.ensures (some (goal.at.nonzero-div-rest c).After-pow-unit)
+pub nonzero_div-rest : goal.nonzero_div-rest
+nonzero_div-rest c = unit_pos c.loop-rest.left c.loop-rest.rest _ c.pow-unit.ensures (some (goal.at.nonzero_div-rest c).After-pow-unit)
 
-pub put-digit-requires : goal.put-digit-requires
-put-digit-requires c =
-    let k = some (goal.at.put-digit-requires c).After-pow-unit in (
+pub put_digit-requires : goal.put_digit-requires
+put_digit-requires c =
+    let k = some (goal.at.put_digit-requires c).After-pow-unit in (
       omega (arith, ap length (step_at c.loop-rest.left c.loop-rest.rest _ c.pow-unit.ensures k (omega arith))),
       digit_small c.loop-rest.left c.loop-rest.rest _ c.pow-unit.ensures k c.loop-rest.invariant.0,
     )
 
-pub nonzero-rem-rest : goal.nonzero-rem-rest
-nonzero-rem-rest c = unit_pos c.loop-rest.left c.loop-rest.rest _ c.pow-unit.ensures (some (goal.at.nonzero-rem-rest c).After-pow-unit)
+pub nonzero_rem-rest : goal.nonzero_rem-rest
+nonzero_rem-rest c = unit_pos c.loop-rest.left c.loop-rest.rest _ c.pow-unit.ensures (some (goal.at.nonzero_rem-rest c).After-pow-unit)
 
 pub loop-rest-preserved : goal.loop-rest-preserved
 loop-rest-preserved c =
@@ -27,7 +27,7 @@ loop-rest-preserved c =
       rest_small c.loop-rest.left c.loop-rest.rest _ c.pow-unit.ensures k,
       omega arith,
       omega (arith, ap length e),
-      ap (λ o. take (c.loop-rest.at + 1) o ++ decimals (c.loop-rest.left - 1) (c.loop-rest.rest % c.pow-unit.result)) c.put-digit.ensures
+      ap (λ o. take (c.loop-rest.at + 1) o ++ decimals (c.loop-rest.left - 1) (c.loop-rest.rest % c.pow-unit.result)) c.put_digit.ensures
           ∙ put_one c.loop-rest.left c.loop-rest.rest _ c.pow-unit.ensures k c.loop-rest.out c.loop-rest.at (omega (arith, ap length e)) (omega arith) ∙ c.loop-rest.invariant.3,
     )
 

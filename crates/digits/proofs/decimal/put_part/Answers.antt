@@ -20,18 +20,18 @@ some c =
 long : (c : Else-rest-eq0) → length (pointed (decimals c.args.places c.args.rest)) ≡ length (decimals c.args.places c.args.rest) + 1
 long c = ap length (pointed_some (decimals c.args.places c.args.rest) (some c)) ∙ omega arith
 
-pub put-point-requires : goal.put-point-requires
-put-point-requires c = omega (arith, long (goal.at.put-point-requires c).Else-rest-eq0)
+pub put_point-requires : goal.put_point-requires
+put_point-requires c = omega (arith, long (goal.at.put_point-requires c).Else-rest-eq0)
 
-pub put-decimals-requires : goal.put-decimals-requires
-put-decimals-requires c =
-    (omega (arith, long (goal.at.put-decimals-requires c).Else-rest-eq0), (c.requires.1.0, omega arith))
+pub put_decimals-requires : goal.put_decimals-requires
+put_decimals-requires c =
+    (omega (arith, long (goal.at.put_decimals-requires c).Else-rest-eq0), (c.requires.1.0, omega arith))
 
 pub returns : goal.returns
 returns c =
     let d = (goal.at.returns c).Else-rest-eq0 in
     record {
       end = omega (arith, long d);
-      front = put_point_lem c.args.out.now c.put-decimals.new.out c.args.at _ c.args.places c.args.rest (omega (arith, long d)) (some d)
-          (c.put-decimals.ensures.front ∙ ap (λ o. take (c.args.at + 1) o ++ decimals c.args.places c.args.rest) c.put_point_lem.ensures);
+      front = put_point_lem c.args.out.now c.put_decimals.new.out c.args.at _ c.args.places c.args.rest (omega (arith, long d)) (some d)
+          (c.put_decimals.ensures.front ∙ ap (λ o. take (c.args.at + 1) o ++ decimals c.args.places c.args.rest) c.put_point.ensures);
     }

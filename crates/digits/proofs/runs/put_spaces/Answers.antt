@@ -5,7 +5,7 @@ use Rattle.digits.proofs.runs.put_spaces.Goals as goal
 
 pub loop-at-preserved : goal.loop-at-preserved
 loop-at-preserved c =
-    ap (take (c.loop-at.at + 1)) c.put-space.ensures ∙ space_more c.loop-at.out (take c.args.from c.args.out.now) c.args.from c.loop-at.at (omega arith) (omega arith) c.loop-at.invariant
+    ap (take (c.loop-at.at + 1)) c.put_space.ensures ∙ space_more c.loop-at.out (take c.args.from c.args.out.now) c.args.from c.loop-at.at (omega arith) (omega arith) c.loop-at.invariant
 
 pub returns : goal.returns
 returns c =

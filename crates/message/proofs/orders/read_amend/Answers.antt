@@ -6,21 +6,21 @@ pub returns-then-m-width : goal.returns-then-m-width
 unfolding amend_of
 returns-then-m-width g c = search rules
 
-pub returns-in-err-pair : goal.returns-in-err-pair
+pub returns-in_err-pair : goal.returns-in_err-pair
 unfolding amend_of
-returns-in-err-pair g c = search rules
+returns-in_err-pair g c = search rules
 
-pub returns-in-err-active : goal.returns-in-err-active
+pub returns-in_err-active : goal.returns-in_err-active
 unfolding amend_of
-returns-in-err-active g c = search rules
+returns-in_err-active g c = search rules
 
-pub returns-in-err-amount : goal.returns-in-err-amount
+pub returns-in_err-amount : goal.returns-in_err-amount
 unfolding amend_of
-returns-in-err-amount g c = search rules
+returns-in_err-amount g c = search rules
 
-pub returns-in-err-terms : goal.returns-in-err-terms
+pub returns-in_err-terms : goal.returns-in_err-terms
 unfolding amend_of
-returns-in-err-terms g c = search rules
+returns-in_err-terms g c = search rules
 
 pub returns : goal.returns
 unfolding amend_of

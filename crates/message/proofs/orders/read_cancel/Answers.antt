@@ -6,13 +6,13 @@ pub returns-then-m-ne23 : goal.returns-then-m-ne23
 unfolding cancel_of
 returns-then-m-ne23 c = search rules
 
-pub returns-in-err-pair : goal.returns-in-err-pair
+pub returns-in_err-pair : goal.returns-in_err-pair
 unfolding cancel_of
-returns-in-err-pair c = search rules
+returns-in_err-pair c = search rules
 
-pub returns-in-err-id : goal.returns-in-err-id
+pub returns-in_err-id : goal.returns-in_err-id
 unfolding cancel_of
-returns-in-err-id c = search rules
+returns-in_err-id c = search rules
 
 pub returns : goal.returns
 unfolding cancel_of

@@ -6,29 +6,29 @@ pub returns-then-m-width : goal.returns-then-m-width
 unfolding new_of
 returns-then-m-width g c = search rules
 
-pub returns-in-err-side : goal.returns-in-err-side
+pub returns-in_err-side : goal.returns-in_err-side
 unfolding new_of
-returns-in-err-side g c = search rules
+returns-in_err-side g c = search rules
 
-pub returns-in-err-pair : goal.returns-in-err-pair
+pub returns-in_err-pair : goal.returns-in_err-pair
 unfolding new_of
-returns-in-err-pair g c = search rules
+returns-in_err-pair g c = search rules
 
-pub returns-in-err-id : goal.returns-in-err-id
+pub returns-in_err-id : goal.returns-in_err-id
 unfolding new_of
-returns-in-err-id g c = search rules
+returns-in_err-id g c = search rules
 
-pub returns-in-err-price : goal.returns-in-err-price
+pub returns-in_err-price : goal.returns-in_err-price
 unfolding new_of
-returns-in-err-price g c = search rules
+returns-in_err-price g c = search rules
 
-pub returns-in-err-amount : goal.returns-in-err-amount
+pub returns-in_err-amount : goal.returns-in_err-amount
 unfolding new_of
-returns-in-err-amount g c = search rules
+returns-in_err-amount g c = search rules
 
-pub returns-in-err-terms : goal.returns-in-err-terms
+pub returns-in_err-terms : goal.returns-in_err-terms
 unfolding new_of
-returns-in-err-terms g c = search rules
+returns-in_err-terms g c = search rules
 
 pub returns : goal.returns
 unfolding new_of

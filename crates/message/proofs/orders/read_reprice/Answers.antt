@@ -6,29 +6,29 @@ pub returns-then-m-width : goal.returns-then-m-width
 unfolding reprice_of
 returns-then-m-width g c = search rules
 
-pub returns-in-err-pair : goal.returns-in-err-pair
+pub returns-in_err-pair : goal.returns-in_err-pair
 unfolding reprice_of
-returns-in-err-pair g c = search rules
+returns-in_err-pair g c = search rules
 
-pub returns-in-err-active : goal.returns-in-err-active
+pub returns-in_err-active : goal.returns-in_err-active
 unfolding reprice_of
-returns-in-err-active g c = search rules
+returns-in_err-active g c = search rules
 
-pub returns-in-err-price : goal.returns-in-err-price
+pub returns-in_err-price : goal.returns-in_err-price
 unfolding reprice_of
-returns-in-err-price g c = search rules
+returns-in_err-price g c = search rules
 
-pub returns-in-err-amount : goal.returns-in-err-amount
+pub returns-in_err-amount : goal.returns-in_err-amount
 unfolding reprice_of
-returns-in-err-amount g c = search rules
+returns-in_err-amount g c = search rules
 
-pub returns-in-err-terms : goal.returns-in-err-terms
+pub returns-in_err-terms : goal.returns-in_err-terms
 unfolding reprice_of
-returns-in-err-terms g c = search rules
+returns-in_err-terms g c = search rules
 
-pub returns-then-is-none : goal.returns-then-is-none
+pub returns-then-is_none : goal.returns-then-is_none
 unfolding reprice_of
-returns-then-is-none g c = search rules
+returns-then-is_none g c = search rules
 
 pub returns : goal.returns
 unfolding reprice_of

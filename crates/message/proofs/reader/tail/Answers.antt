@@ -3,17 +3,17 @@ use Rattle.message.specs.Reading.{field, tail_at}
 use Rattle.message.proofs.Readings.{tail_short, field_long}
 use Rattle.message.proofs.reader.tail.Goals as goal
 
-pub returns-in-err-bytes : goal.returns-in-err-bytes
-returns-in-err-bytes g c = search (rules, tail_short)
+pub returns-in_err-bytes : goal.returns-in_err-bytes
+returns-in_err-bytes g c = search (rules, tail_short)
 
-pub overflow-add-result : goal.overflow-add-result
-overflow-add-result g c =
+pub overflow_add-result : goal.overflow_add-result
+overflow_add-result g c =
     let F = g.V.Venue.form in
-    let part = c.in-ok-bytes.ensures in
+    let part = c.in_ok-bytes.ensures in
     let fits : c.args.at + F.width ≤ length c.args.m.now = search rules in
-    let long : length c.in-ok-bytes.bytes.now ≡ F.width = search (rules, field_long) in
-    let refused : F.reads c.in-ok-bytes.bytes.now ≡ Err c.in-Err.k = cc in
-    let inside = F.refused_inside c.in-ok-bytes.bytes.now c.in-Err.k long refused in
+    let long : length c.in_ok-bytes.bytes.now ≡ F.width = search (rules, field_long) in
+    let refused : F.reads c.in_ok-bytes.bytes.now ≡ Err c.in-Err.k = cc in
+    let inside = F.refused_inside c.in_ok-bytes.bytes.now c.in-Err.k long refused in
     search rules
 
 pub returns-in-Ok : goal.returns-in-Ok

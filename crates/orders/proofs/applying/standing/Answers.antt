@@ -3,10 +3,10 @@ use Rattle.book.specs.Ladders.{finds_stands}
 use Rattle.book.specs.Lookups.{lookup_none, lookup_rank}
 use Rattle.orders.proofs.applying.standing.Goals as goal
 
-pub returns-in-default : goal.returns-in-default
-returns-in-default g c =
+pub returns-in_default : goal.returns-in_default
+returns-in_default g c =
     let l = g.B.Book.ladder c.args.book.now in
-    (refl, lookup_none c.args.pair c.args.id l (finds_stands c.args.pair c.args.id l None c.in-default.ensures))
+    (refl, lookup_none c.args.pair c.args.id l (finds_stands c.args.pair c.args.id l None c.in_default.ensures))
 
 pub returns-in-Some-at : goal.returns-in-Some-at
 returns-in-Some-at g c =

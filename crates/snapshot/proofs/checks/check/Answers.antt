@@ -4,10 +4,10 @@ use Rattle.snapshot.specs.Snapshot.{snapshot_of}
 use Rattle.snapshot.proofs.Checking.{checked_so, checked_fault}
 use Rattle.snapshot.proofs.checks.check.Goals as goal
 
-pub returns-in-err-visit-marks : goal.returns-in-err-visit-marks
-returns-in-err-visit-marks g c =
+pub returns-in_err-visit_marks : goal.returns-in_err-visit_marks
+returns-in_err-visit_marks g c =
     let p = err_from_is_err_and c.from-residual.result c.from-residual.ensures.1 in
-    p.1 ∙ ap Err p.2 ∙ sym (checked_fault (snapshot_of g.V.Venue.form c.args.m.now) _ c.in-err-visit-marks.ensures.answer)
+    p.1 ∙ ap Err p.2 ∙ sym (checked_fault (snapshot_of g.V.Venue.form c.args.m.now) _ c.in_err-visit_marks.ensures.answer)
 
 pub returns : goal.returns
-returns g c = c.outcome.ensures ∙ checked_so g.V.Venue.form c.args.m.now _ c.visit-marks.new.state _ (record { first = refl; pairs = refl; orders = refl }) c.in-ok-visit-marks.ensures
+returns g c = c.outcome.ensures ∙ checked_so g.V.Venue.form c.args.m.now _ c.visit_marks.new.state _ (record { first = refl; pairs = refl; orders = refl }) c.in_ok-visit_marks.ensures

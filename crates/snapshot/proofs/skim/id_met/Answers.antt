@@ -9,4 +9,4 @@ pub returns-in-Past : goal.returns-in-Past
 returns-in-Past g c p = sides_past g.V.Venue.form c.args.m.now c.args.upto c.args.id.now p c.args.from (c.in-Past.ensures p Bid)
 
 pub returns-in-Next : goal.returns-in-Next
-returns-in-Next g c p = sides_next g.V.Venue.form c.args.m.now c.args.upto c.args.id.now p c.args.from c.in-Next.at c.side-met.result (c.in-Next.ensures p Bid) (c.side-met.ensures p Offer)
+returns-in-Next g c p = sides_next g.V.Venue.form c.args.m.now c.args.upto c.args.id.now p c.args.from c.in-Next.at c.side_met.result (c.in-Next.ensures p Bid) (c.side_met.ensures p Offer)

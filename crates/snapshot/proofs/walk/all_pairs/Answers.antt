@@ -5,14 +5,14 @@ use Rattle.snapshot.specs.Snapshot.{pair_at}
 use Rattle.snapshot.proofs.Walks.{moved, faulted, pairs_read, pairs_fault}
 use Rattle.snapshot.proofs.walk.all_pairs.Goals as goal
 
-pub returns-in-err-count : goal.returns-in-err-count
-returns-in-err-count g c =
+pub returns-in_err-count : goal.returns-in_err-count
+returns-in_err-count g c =
     let p = err_from_is_err_and c.from-residual.result c.from-residual.ensures.1 in
-    faulted (g.K.Task.steps c.args.m.now) _ p.0 (pairs_fault g.V.Venue.form c.args.m.now c.args.at (sym c.next.ensures ∙ c.in-err-count.was)) p.1 p.2
+    faulted (g.K.Task.steps c.args.m.now) _ p.0 (pairs_fault g.V.Venue.form c.args.m.now c.args.at (sym c.next.ensures ∙ c.in_err-count.was)) p.1 p.2
 
 pub returns : goal.returns
 returns g c =
     let f = pair_at g.V.Venue.form c.args.m.now in
-    moved (g.K.Task.steps c.args.m.now) (pairs_read g.V.Venue.form c.args.m.now c.args.at (sym c.next.ensures ∙ c.in-ok-count.was)
-    ∙ ap (λ n. times f n c.in-ok-count.pairs-at) (sym c.value.ensures))
+    moved (g.K.Task.steps c.args.m.now) (pairs_read g.V.Venue.form c.args.m.now c.args.at (sym c.next.ensures ∙ c.in_ok-count.was)
+    ∙ ap (λ n. times f n c.in_ok-count.pairs_at) (sym c.value.ensures))
     c.pairs.ensures

@@ -3,17 +3,17 @@ use Rattle.std.proofs.lemmas.Result.{err_from_is_err_and}
 use Rattle.snapshot.proofs.Walks.{walked_ok, moved, faulted, order_read, order_unsized, order_unnamed}
 use Rattle.snapshot.proofs.walk.order.Goals as goal
 
-pub returns-in-err-amount : goal.returns-in-err-amount
-returns-in-err-amount g c =
+pub returns-in_err-amount : goal.returns-in_err-amount
+returns-in_err-amount g c =
     let p = err_from_is_err_and c.from-residual.result c.from-residual.ensures.1 in
-    faulted (g.K.Task.steps c.args.m.now) _ p.0 (order_unsized g.V.Venue.form c.args.m.now c.args.pair c.args.side c.args.price c.args.at (sym c.next.ensures ∙ c.in-err-amount.was)) p.1 p.2
+    faulted (g.K.Task.steps c.args.m.now) _ p.0 (order_unsized g.V.Venue.form c.args.m.now c.args.pair c.args.side c.args.price c.args.at (sym c.next.ensures ∙ c.in_err-amount.was)) p.1 p.2
 
-pub returns-in-err-id-at : goal.returns-in-err-id-at
-returns-in-err-id-at g c =
-    let p = err_from_is_err_and c.from-residual-in-err-id-at.result c.from-residual-in-err-id-at.ensures.1 in
-    faulted (g.K.Task.steps c.args.m.now) _ p.0 (order_unnamed g.V.Venue.form c.args.m.now c.args.pair c.args.side c.args.price c.args.at (sym c.next.ensures ∙ c.in-ok-amount.was) (sym c.named.ensures ∙ c.in-err-id-at.was)) p.1 p.2
+pub returns-in_err-id_at : goal.returns-in_err-id_at
+returns-in_err-id_at g c =
+    let p = err_from_is_err_and c.from-residual-in_err-id_at.result c.from-residual-in_err-id_at.ensures.1 in
+    faulted (g.K.Task.steps c.args.m.now) _ p.0 (order_unnamed g.V.Venue.form c.args.m.now c.args.pair c.args.side c.args.price c.args.at (sym c.next.ensures ∙ c.in_ok-amount.was) (sym c.named.ensures ∙ c.in_err-id_at.was)) p.1 p.2
 
 pub returns : goal.returns
 returns g c =
-    moved (g.K.Task.steps c.args.m.now) (order_read g.V.Venue.form c.args.m.now c.args.pair c.args.side c.args.price c.args.at (sym c.next.ensures ∙ c.in-ok-amount.was) (sym c.named.ensures ∙ c.in-ok-id-at.was))
+    moved (g.K.Task.steps c.args.m.now) (order_read g.V.Venue.form c.args.m.now c.args.pair c.args.side c.args.price c.args.at (sym c.next.ensures ∙ c.in_ok-amount.was) (sym c.named.ensures ∙ c.in_ok-id_at.was))
     (walked_ok (g.K.Task.steps c.args.m.now) _ _ _ _ (_, c.visit.ensures, refl))

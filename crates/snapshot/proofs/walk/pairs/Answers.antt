@@ -4,16 +4,16 @@ use Rattle.snapshot.specs.Snapshot.{pair_at}
 use Rattle.snapshot.proofs.Walks.{times_none, times_next, times_stop, answered}
 use Rattle.snapshot.proofs.walk.pairs.Goals as goal
 
-pub returns-in-err-at : goal.returns-in-err-at
-returns-in-err-at g c =
+pub returns-in_err-at : goal.returns-in_err-at
+returns-in_err-at g c =
     let f = pair_at g.V.Venue.form c.args.m.now in
     let p = err_from_is_err_and c.from-residual.result c.from-residual.ensures.1 in
-    answered (g.K.Task.steps c.args.m.now) (p.1 ∙ ap Err p.2) (c.loop-n.invariant _ _ (times_stop (g.K.Task.steps c.args.m.now) f c.loop-n.n c.loop-n.at c.loop-n.state c.pair-of.new.state _ _ c.loop-n-test.true c.in-err-at.ensures))
+    answered (g.K.Task.steps c.args.m.now) (p.1 ∙ ap Err p.2) (c.loop-n.invariant _ _ (times_stop (g.K.Task.steps c.args.m.now) f c.loop-n.n c.loop-n.at c.loop-n.state c.pair_of.new.state _ _ c.loop-n-test.true c.in_err-at.ensures))
 
 pub loop-n-preserved : goal.loop-n-preserved
 loop-n-preserved g c r s h =
     let f = pair_at g.V.Venue.form c.args.m.now in
-    c.loop-n.invariant r s (times_next (g.K.Task.steps c.args.m.now) f c.loop-n.n c.loop-n.at c.loop-n.state c.pair-of.new.state s _ r c.loop-n-test.true c.in-ok-at.ensures h)
+    c.loop-n.invariant r s (times_next (g.K.Task.steps c.args.m.now) f c.loop-n.n c.loop-n.at c.loop-n.state c.pair_of.new.state s _ r c.loop-n-test.true c.in_ok-at.ensures h)
 
 pub returns : goal.returns
 returns g c =

@@ -5,14 +5,14 @@ use Rattle.snapshot.specs.Snapshot.{level_at}
 use Rattle.snapshot.proofs.Walks.{moved, faulted, side_read, side_fault}
 use Rattle.snapshot.proofs.walk.side_of.Goals as goal
 
-pub returns-in-err-count : goal.returns-in-err-count
-returns-in-err-count g c =
+pub returns-in_err-count : goal.returns-in_err-count
+returns-in_err-count g c =
     let p = err_from_is_err_and c.from-residual.result c.from-residual.ensures.1 in
-    faulted (g.K.Task.steps c.args.m.now) _ p.0 (side_fault g.V.Venue.form c.args.m.now c.args.pair c.args.side c.args.at (sym c.next.ensures ∙ c.in-err-count.was)) p.1 p.2
+    faulted (g.K.Task.steps c.args.m.now) _ p.0 (side_fault g.V.Venue.form c.args.m.now c.args.pair c.args.side c.args.at (sym c.next.ensures ∙ c.in_err-count.was)) p.1 p.2
 
 pub returns : goal.returns
 returns g c =
     let f = level_at g.V.Venue.form c.args.m.now c.args.pair c.args.side in
-    moved (g.K.Task.steps c.args.m.now) (side_read g.V.Venue.form c.args.m.now c.args.pair c.args.side c.args.at (sym c.next.ensures ∙ c.in-ok-count.was)
-    ∙ ap (λ n. times f n c.in-ok-count.levels-at) (sym c.value.ensures))
+    moved (g.K.Task.steps c.args.m.now) (side_read g.V.Venue.form c.args.m.now c.args.pair c.args.side c.args.at (sym c.next.ensures ∙ c.in_ok-count.was)
+    ∙ ap (λ n. times f n c.in_ok-count.levels_at) (sym c.value.ensures))
     c.levels.ensures

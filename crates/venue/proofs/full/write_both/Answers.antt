@@ -4,20 +4,20 @@ use Rattle.venue.specs.Full.{text_long, both_long}
 use Rattle.venue.proofs.Behind.{behind}
 use Rattle.venue.proofs.full.write_both.Goals as goal
 
-pub returns-then-not-has-room : goal.returns-then-not-has-room
-returns-then-not-has-room c =
+pub returns-then-not-has_room : goal.returns-then-not-has_room
+returns-then-not-has_room c =
     let l = both_long _ _ (text_long c.args.first.now) (text_long c.args.second.now) in
     let short : length c.args.out.now < c.args.at + 32 =
-    ⊎_elim (λ s. s) (λ s. absurd (both_ways _ c.if-not-has-room.true (c.has-room.ensures.1 s))) (cases_lt (length c.args.out.now) (c.args.at + 32)) in
+    ⊎_elim (λ s. s) (λ s. absurd (both_ways _ c.if-not-has_room.true (c.has_room.ensures.1 s))) (cases_lt (length c.args.out.now) (c.args.at + 32)) in
     (refl, omega (arith, l), refl)
 
-pub returns-in-err-write : goal.returns-in-err-write
-returns-in-err-write c =
+pub returns-in_err-write : goal.returns-in_err-write
+returns-in_err-write c =
     let l = text_long c.args.first.now in
-    absurd (omega (arith, c.in-err-write.ensures.1))
+    absurd (omega (arith, c.in_err-write.ensures.1))
 
 pub returns : goal.returns
 returns c =
-    let g = c.in-ok-write.ensures in
+    let g = c.in_ok-write.ensures in
     let l = text_long c.args.second.now in
     behind _ _ _ _ _ 16 (text_long c.args.first.now) (omega arith) g.1 _ _ c.write.auto.out c.write-2.ensures

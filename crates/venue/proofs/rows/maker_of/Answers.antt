@@ -9,4 +9,4 @@ returns-in-Ok c = maker_given_back _ _ c.in-Ok.ensures.1
 pub returns-in-Err : goal.returns-in-Err
 returns-in-Err c =
     let bs = c.args.bytes.now in
-    maker_fixed _ bs c.unknown-maker.ensures (λ h. c.in-Err.ensures.1 bs ((labelled_decides 16 bs).0 h, refl))
+    maker_fixed _ bs c.unknown_maker.ensures (λ h. c.in-Err.ensures.1 bs ((labelled_decides 16 bs).0 h, refl))

@@ -5,4 +5,4 @@ pub returns-in-Some : goal.returns-in-Some
 returns-in-Some c = quantity_given_back _ _ c.in-Some.ensures
 
 pub returns-in-None : goal.returns-in-None
-returns-in-None c = quantity_fixed _ _ c.no-restriction.ensures c.in-None.ensures
+returns-in-None c = quantity_fixed _ _ c.no_restriction.ensures c.in-None.ensures

@@ -3,15 +3,15 @@ use Rattle.book.specs.Packing.{cleared_holds}
 use Rattle.book.proofs.Taking.{kept_by_shorter}
 use Rattle.book.proofs.packed.PackedBookBook.clear.Goals as goal
 
-pub invariant-of-self : goal.invariant-of-self
-invariant-of-self g c =
+pub invariant_of-self : goal.invariant_of-self
+invariant_of-self g c =
     let b = c.args.self.now in
-    let h = cleared_holds g.T.Terms.given (vec_items b.rows) b.formed b.sorted b.distinct c.args.pair (vec_items c.take-off.new.rows) c.take-off.ensures.items in
-    let taken = kept_by_shorter _ (vec_items b.rows) (vec_items c.take-off.new.rows) c.take-off.ensures.items in
-    (b.small, (omega (arith, taken, b.rows.ok.0, c.take-off.new.rows.ok.0), (omega (arith, c.take-off.ensures.capacity), (h.formed, (h.sorted, (h.distinct, tt))))))
+    let h = cleared_holds g.T.Terms.given (vec_items b.rows) b.formed b.sorted b.distinct c.args.pair (vec_items c.take_off.new.rows) c.take_off.ensures.items in
+    let taken = kept_by_shorter _ (vec_items b.rows) (vec_items c.take_off.new.rows) c.take_off.ensures.items in
+    (b.small, (omega (arith, taken, b.rows.ok.0, c.take_off.new.rows.ok.0), (omega (arith, c.take_off.ensures.capacity), (h.formed, (h.sorted, (h.distinct, tt))))))
 
 pub returns : goal.returns
 returns g c =
     let b = c.args.self.now in
-    let h = cleared_holds g.T.Terms.given (vec_items b.rows) b.formed b.sorted b.distinct c.args.pair (vec_items c.take-off.new.rows) c.take-off.ensures.items in
+    let h = cleared_holds g.T.Terms.given (vec_items b.rows) b.formed b.sorted b.distinct c.args.pair (vec_items c.take_off.new.rows) c.take_off.ensures.items in
     record { clear = h.is _; kept = refl }

@@ -3,10 +3,10 @@ use Rattle.digits.specs.Written.{written, padded}
 use Rattle.digits.proofs.Puts.{field_filled, length_part, length-padded}
 use Rattle.digits.proofs.texts.DecimalText.write.Goals as goal
 
-pub returns-in-default : goal.returns-in-default
-returns-in-default c =
+pub returns-in_default : goal.returns-in_default
+returns-in_default c =
     let v = c.args.self.now in
-    let e = c.in-default.ensures in
+    let e = c.in_default.ensures in
     (omega (arith, length-padded v.width (written v.places v.count) v.fits), refl)
 
 pub fill-requires : goal.fill-requires

@@ -3,10 +3,10 @@ use Rattle.digits.specs.Written.{justified}
 use Rattle.digits.proofs.Puts.{field_filled, length_part, length-justified}
 use Rattle.digits.proofs.texts.IntegerText.write.Goals as goal
 
-pub returns-in-default : goal.returns-in-default
-returns-in-default c =
+pub returns-in_default : goal.returns-in_default
+returns-in_default c =
     let v = c.args.self.now in
-    let e = c.in-default.ensures in
+    let e = c.in_default.ensures in
     (omega (arith, length-justified v.width (decimal v.value) v.fits), refl)
 
 pub fill-requires : goal.fill-requires

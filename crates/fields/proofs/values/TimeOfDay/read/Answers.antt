@@ -3,5 +3,5 @@ use Rattle.fields.specs.Forms.{Timed}
 use Rattle.fields.proofs.Tests.{timed_decides}
 use Rattle.fields.proofs.values.TimeOfDay.read.Goals as goal
 
-pub invariant-of-result : goal.invariant-of-result
-invariant-of-result c = ((timed_decides _).1 (subst Timed (sym c.copy-from-slice.ensures.after) (c.timed.ensures.0 c.if-not-timed.false)), tt)
+pub invariant_of-result : goal.invariant_of-result
+invariant_of-result c = record { ok = (timed_decides _).1 (subst Timed (sym c.copy_from_slice.ensures.after) (c.timed.ensures.0 c.if-not-timed.false)) }

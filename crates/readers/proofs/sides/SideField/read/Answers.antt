@@ -9,4 +9,4 @@ returns-then-bytes-ne1 c = sym (cond-false _ _ _ (ne_eqb (length c.args.bytes.no
 
 pub returns : goal.returns
 unfolding side_of
-returns c = c.side-of.ensures ∙ sym (cond-true _ _ _ (eq-eqb (length c.args.bytes.now) 1 c.if-bytes-ne1.false))
+returns c = c.side_of.ensures ∙ sym (cond-true _ _ _ (eq-eqb (length c.args.bytes.now) 1 c.if-bytes-ne1.false))

@@ -8,4 +8,4 @@ returns-then-self-le49152 c =
     let h = c.args.self.now.held in
     let b : leb h.count 49152 ≡ true = le-leb h.count 49152 c.if-self-le49152.true in
     let t = take-take (h.count - 1) h.count h.bytes (omega arith) in
-    simp (c.if-self.true, b, c.saturating-sub.ensures, sub-zero) (ap Some t)
+    simp (c.if-self.true, b, c.saturating_sub.ensures, sub-zero) (ap Some t)

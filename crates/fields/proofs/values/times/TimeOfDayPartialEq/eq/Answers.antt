@@ -1,6 +1,11 @@
 use Rattle.std.proofs.Common.{ap}
+use Rattle.std.proofs.lemmas.Bool.Decides.{same_from_decides}
+use Rattle.std.specs.Cmp.Lexicographic.{bytes_decides}
 use Rattle.fields.proofs.Sames.{time_same}
 use Rattle.fields.proofs.values.times.TimeOfDayPartialEq.eq.Goals as goal
 
-pub returns : goal.returns
-returns c = (λ t. time_same _ _ (c.same-bytes.ensures.0 t), λ e. c.same-bytes.ensures.1 (ap (λ v. v.bytes) e))
+pub returns-clause-same : goal.returns-clause-same
+returns-clause-same c = (λ t. time_same _ _ (c.same_bytes.ensures.0 t), λ e. c.same_bytes.ensures.1 (ap (λ v. v.bytes) e))
+
+pub returns-clause-value : goal.returns-clause-value
+returns-clause-value c = same_from_decides _ _ c.same_bytes.ensures (bytes_decides _ _)
