@@ -2,10 +2,12 @@
 """Brings the repository's own definitions and lemmas to today's spelling, once, after the kit's port.py.
 
 usage: python3 tools/respell.py            at the top of the repository
+       python3 tools/respell.py --all      only what it does of `All`
        python3 tools/respell.py --list     prints each name with its new one, and names that fall together; writes nothing
 
 Types, records and facts are in upper camel case; functions, lemmas, fields and constructors are in snake case. A dash stays
-where it joins two names of functions, or a fact to a word about it. Names of src/ stay.
+where it joins two names of functions, or a fact to a word about it. Names of src/ stay. What port.py imports as `All` under
+another word's name is written with the library's own name, AllByRecursion.
 """
 
 import os
@@ -150,6 +152,14 @@ def turned(text, table, crates):
     return "".join(parts)
 
 
+def own_all(text):
+    if "AllByRecursion as All" not in text:
+        return text
+    parts = SPLIT.split(text.replace("AllByRecursion as All", "AllByRecursion"))
+    parts[::2] = ["AllByRecursion" if w == "All" else w for w in parts[::2]]
+    return "".join(parts)
+
+
 def main(argv):
     root = os.getcwd()
     table, names = renamings(root)
@@ -165,9 +175,11 @@ def main(argv):
                 print("STANDS:", new, olds, names[new], names[olds[0]])
         return 0
     crates = own_crates(root)
+    if "--all" in argv:
+        table = {}
     for path in texts(root):
         text = read(path)
-        new = turned(text, table, crates)
+        new = own_all(turned(text, table, crates))
         if new != text:
             with open(path, "w", encoding="utf-8") as f:
                 f.write(new)

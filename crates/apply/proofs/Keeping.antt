@@ -1,6 +1,6 @@
 -- The orders that clearing leaves, and placing where nothing is refused.
 use Rattle.std.proofs.Common.{◌≡◌, ℕ, zero, suc, ◌+◌, ◌<◌, ◌≤◌, Bool, true, false, cond, not, ◌&&◌, ◌||◌, List, [], ◌∷◌, length, take, Some, None, Option, sym, refl, ap, ◌∙◌, ap₂, ⊎_elim, add-one, arith}
-use Rattle.std.specs.List.{AllByRecursion as All}
+use Rattle.std.specs.List.{AllByRecursion}
 use Rattle.std.specs.Str.{bytes_eq}
 use Rattle.std.proofs.lemmas.Bool.Decides.{nat_tests}
 use Rattle.std.proofs.lemmas.Bool.{both_ways, and_parts, and_left, not-true, or_parts, or_from, cases_Bool}
@@ -84,7 +84,7 @@ module _ {T : Type 0} where
       by false e ih = or_from _ _ (other ps p i x true h e) ih
 
   -- orders of pairs that are listed are of no other pair
-  pub none_unlisted : (ps : List Pair) (p : Pair) (i : OrderId) (os : List (Order T)) → All (λ (o : Order T). lists ps o.pair ≡ true) os → lists ps p ≡ false → stands p i os ≡ false
+  pub none_unlisted : (ps : List Pair) (p : Pair) (i : OrderId) (os : List (Order T)) → AllByRecursion (λ (o : Order T). lists ps o.pair ≡ true) os → lists ps p ≡ false → stands p i os ≡ false
   none_unlisted ps p i [] a h = refl
   none_unlisted ps p i (x ∷ os) a h = or_from _ _ (other ps p i x false h a.0) (none_unlisted ps p i os a.1 h)
 
@@ -101,10 +101,10 @@ module _ {T : Type 0} where
 
   -- the ids of all are new to the ladder
   abbrev pub New : List (Order T) → List (Order T) → Type 0
-  New l os = All (λ x. stands x.pair x.id l ≡ false) os
+  New l os = AllByRecursion (λ x. stands x.pair x.id l ≡ false) os
 
   -- of pairs that are cleared, no order stands
-  pub new_cleared : (ps : List Pair) (l os : List (Order T)) → All (λ (o : Order T). lists ps o.pair ≡ true) os → New (cleared_all ps l) os
+  pub new_cleared : (ps : List Pair) (l os : List (Order T)) → AllByRecursion (λ (o : Order T). lists ps o.pair ≡ true) os → New (cleared_all ps l) os
   new_cleared ps l [] h = tt
   new_cleared ps l (o ∷ os) h = (cleared_gone ps o.pair o.id l h.0, new_cleared ps l os h.1)
 

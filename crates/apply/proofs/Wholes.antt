@@ -1,6 +1,6 @@
 -- What a snapshot does, from what its parts tell.
 use Rattle.std.proofs.Common.{◌≡◌, ℕ, ◌+◌, ◌<◌, ◌≤◌, true, false, cond, leb, List, [], ◌∷◌, length, Some, None, Ok, Err, Option, sym, refl, ap, ◌∙◌, ap₂, arith}
-use Rattle.std.specs.List.{AllByRecursion as All}
+use Rattle.std.specs.List.{AllByRecursion}
 use Rattle.std.proofs.lemmas.Bool.{cond-true, cond-false, or_left, or_right, leb-true, leb-false}
 use Rattle.fields.specs.declared.values.Pair.{Pair}
 use Rattle.book.specs.declared.order.Order.{Order}
@@ -23,7 +23,7 @@ use Rattle.apply.proofs.Keeping.{replaced_listed, replaced_others, replaced_ladd
 module _ {T : Type 0} where
   -- orders below pairs of ps only
   under_listed : (ps : List Pair) (ms : List (Mark T)) → ((d : Pair) → lists (pairs_listed ms) d ≡ true → lists ps d ≡ true)
-      → (c : Option Pair) → ((d : Pair) → c ≡ Some d → lists ps d ≡ true) → Under c ms → All (λ (o : Order T). lists ps o.pair ≡ true) (orders_put ms)
+      → (c : Option Pair) → ((d : Pair) → c ≡ Some d → lists ps d ≡ true) → Under c ms → AllByRecursion (λ (o : Order T). lists ps o.pair ≡ true) (orders_put ms)
   under_listed ps [] all c last u = tt
   under_listed ps (Lists p d ∷ ms) all c last u = under_listed ps ms (λ x h. all x (or_right _ _ h)) (Some d)
       (λ x e. let same : d ≡ x = cc in ap (lists ps) (sym same) ∙ all d (or_left _ _ (same_bytes d.bytes d.bytes refl))) u

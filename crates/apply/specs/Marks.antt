@@ -1,6 +1,6 @@
 -- What the walks over a snapshot find and do, mark by mark.
 use Rattle.std.specs.Prelude.{◌≡◌, ℕ, ◌+◌, ◌^◌, ◌<◌, Bool, true, false, not, List, [], ◌∷◌, length, Some, None, Ok, Err, Option, Result}
-use Rattle.std.specs.List.{AllByRecursion as All}
+use Rattle.std.specs.List.{AllByRecursion}
 use Rattle.fields.specs.declared.values.Pair.{Pair}
 use Rattle.book.specs.declared.order.Order.{Order}
 use Rattle.book.specs.Ladder.{same_pair, stands, placed, cleared}
@@ -37,7 +37,7 @@ module _ {T : Type 0} where
 
   -- every order put is of a pair listed
   abbrev pub OfListed : List (Mark T) → Type 0
-  OfListed ms = All (λ (o : Order T). lists (pairs_listed ms) o.pair ≡ true) (orders_put ms)
+  OfListed ms = AllByRecursion (λ (o : Order T). lists (pairs_listed ms) o.pair ≡ true) (orders_put ms)
 
   -- what is said of what a message lists, where it is a snapshot
   abbrev pub Told : venue.Form T → List ℕ → (List (Mark T) → Type 0) → Type 0

@@ -1,6 +1,6 @@
 -- What the book's calls answer, and the ladder after them.
 use Rattle.std.specs.Prelude.{◌≡◌, ℕ, ◌<◌, min, Bool, true, false, ◌⊎◌, List, [], length, Some, None, Ok, Err, Option, Result, slice_index_or}
-use Rattle.std.specs.List.{AllByRecursion as All}
+use Rattle.std.specs.List.{AllByRecursion}
 use Rattle.fields.specs.declared.values.Pair.{Pair}
 use Rattle.fields.specs.declared.values.Amount.{Amount}
 use Rattle.book.specs.Ladder.{OrderId, stands, placed, amended, without}
@@ -35,7 +35,7 @@ Remove l p i (Err e) l' = (number e ≡ 31) × (stands p i l ≡ false) × (l' �
 
 -- a rank at which the test holds, or none where it holds of no order
 abbrev pub Finds : {T : Type 0} → (Order T → Bool) → List (Order T) → Option ℕ → Type 0
-Finds test l None = All (λ x. test x ≡ false) l
+Finds test l None = AllByRecursion (λ x. test x ≡ false) l
 Finds {T} test l (Some k) = (k < length l) × ((d : Order T) → test (slice_index_or l k d) ≡ true)
 
 -- a storage of s slots makes an empty book of capacity s, or 512 if s is more

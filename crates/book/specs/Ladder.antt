@@ -1,7 +1,7 @@
 -- The ladder of standing orders, and the changes of it.
 use Rattle.std.specs.Prelude.{◌≡◌, ℕ, zero, suc, Bool, true, false, cond, not, ◌&&◌, ◌||◌, ◌⊎◌, List, [], ◌∷◌, ◌++◌, Some, None, Option, ◌==◌}
 use Rattle.std.specs.Str.{bytes_eq}
-use Rattle.std.specs.List.{AllByRecursion as All, list_all}
+use Rattle.std.specs.List.{AllByRecursion, list_all}
 use Rattle.fields.specs.declared.values.Pair.{Pair}
 use Rattle.fields.specs.declared.values.Label.{Label}
 use Rattle.fields.specs.declared.values.Price.{Price}
@@ -69,8 +69,8 @@ pub record Placed {T : Type 0} (o : Order T) (l l' : List (Order T)) : Type 0 wh
   pub back : List (Order T)
   pub was : l ≡ front ++ back
   pub is : l' ≡ front ++ (o ∷ back)
-  pub ahead_of : All (λ x. ahead x o ≡ true) front
-  pub behind : All (λ x. ahead x o ≡ false) back
+  pub ahead_of : AllByRecursion (λ x. ahead x o ≡ true) front
+  pub behind : AllByRecursion (λ x. ahead x o ≡ false) back
 
 -- the ladder with o placed
 abbrev pub placed : {T : Type 0} → Order T → List (Order T) → List (Order T)

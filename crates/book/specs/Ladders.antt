@@ -2,7 +2,7 @@
 use Rattle.std.specs.Prelude.{◌≡◌, ℕ, zero, suc, ◌<◌, ◌≤◌, Bool, true, false, cond, not, ◌&&◌, ◌||◌, ◌⊎◌, List, [], ◌∷◌, ◌++◌, length, is_some, Some, None, Option, slice_index_or}
 use Rattle.std.proofs.Math.Path.{refl}
 use Rattle.std.proofs.Common.{sym, ap, ap₂, ◌∙◌, append_assoc, append-nil, ⊎_elim, arith}
-use Rattle.std.specs.List.{list_all, AllByRecursion as All}
+use Rattle.std.specs.List.{list_all, AllByRecursion}
 use Rattle.std.proofs.lemmas.Bool.{both_ways, and_parts, and_from}
 use Rattle.std.proofs.lemmas.Bool.Decides.{nat_tests}
 use Rattle.book.specs.Ladder.{OrderId, ahead, named, at_level, in_order, apart, stands, placed, without, placed_all, at_rank, reset, amended, Placed}
@@ -99,7 +99,7 @@ module _ {T : Type 0} where
   pub placed_all_own : (l : List (Order T)) → in_order l ≡ true → placed_all [] l ≡ l
   placed_all_own l h = placed_all_from [] l h
 
-  stands_nowhere : (p : Pair) (i : OrderId) (l : List (Order T)) → All (λ x. named p i x ≡ false) l → stands p i l ≡ false
+  stands_nowhere : (p : Pair) (i : OrderId) (l : List (Order T)) → AllByRecursion (λ x. named p i x ≡ false) l → stands p i l ≡ false
   stands_nowhere p i [] h = refl
   stands_nowhere p i (x ∷ l) h = let ih = stands_nowhere p i l h.1 in let n = h.0 in grind (arith, nat_tests)
 
@@ -195,12 +195,12 @@ module _ {T : Type 0} where
         ap₂ ◌∷◌ (ap (λ b. cond b (reset a t x) x) n) (amended_none p i l s)
 
   -- in a ladder, placing opens it, and only placing does
-  all_from_pass : (f : Order T → Bool) (l : List (Order T)) → All (λ x. f x ≡ true) l → list_all f l ≡ true
+  all_from_pass : (f : Order T → Bool) (l : List (Order T)) → AllByRecursion (λ x. f x ≡ true) l → list_all f l ≡ true
   all_from_pass f [] h = refl
   all_from_pass f (x ∷ l) h = and_from _ _ h.0 (all_from_pass f l h.1)
 
   -- behind one that is not ahead of o, none is ahead of o
-  none_ahead : (o x : Order T) → ahead x o ≡ false → (l : List (Order T)) → list_all (λ y. ahead x y) l ≡ true → All (λ y. ahead y o ≡ false) l
+  none_ahead : (o x : Order T) → ahead x o ≡ false → (l : List (Order T)) → list_all (λ y. ahead x y) l ≡ true → AllByRecursion (λ y. ahead y o ≡ false) l
   none_ahead o x n [] h = tt
   none_ahead o x n (y ∷ l) h =
       let p = and_parts _ _ h in
@@ -215,7 +215,7 @@ module _ {T : Type 0} where
         | false ↦ λ e. record { front = []; back = x ∷ l; was = refl; is = refl; ahead_of = tt; behind = (e, none_ahead o x e l p.0) }
       ]) refl
 
-  placed_between : (o : Order T) (a b : List (Order T)) → All (λ x. ahead x o ≡ true) a → All (λ x. ahead x o ≡ false) b → placed o (a ++ b) ≡ a ++ (o ∷ b)
+  placed_between : (o : Order T) (a b : List (Order T)) → AllByRecursion (λ x. ahead x o ≡ true) a → AllByRecursion (λ x. ahead x o ≡ false) b → placed o (a ++ b) ≡ a ++ (o ∷ b)
   placed_between o [] [] h k = refl
   placed_between o [] (x ∷ b) h k = ap (λ c. cond c (x ∷ placed o b) (o ∷ (x ∷ b))) k.0
   placed_between o (x ∷ a) b h k = ap (λ c. cond c (x ∷ placed o (a ++ b)) (o ∷ (x ∷ (a ++ b)))) h.0 ∙ ap (λ z. x ∷ z) (placed_between o a b h.1 k)
@@ -223,11 +223,11 @@ module _ {T : Type 0} where
   pub placed_only : (o : Order T) (l m : List (Order T)) → Placed o l m → m ≡ placed o l
   placed_only o l m r = r.is ∙ sym (placed_between o r.front r.back r.ahead_of r.behind) ∙ sym (ap (placed o) r.was)
 
-  all_from_all_pass : (f : Order T → Bool) (l : List (Order T)) → list_all f l ≡ true → All (λ x. f x ≡ true) l
+  all_from_all_pass : (f : Order T → Bool) (l : List (Order T)) → list_all f l ≡ true → AllByRecursion (λ x. f x ≡ true) l
   all_from_all_pass f [] h = tt
   all_from_all_pass f (x ∷ l) h = let p = and_parts _ _ h in (p.0, all_from_all_pass f l p.1)
 
-  not_ahead : (o : Order T) (l : List (Order T)) → list_all (λ y. ahead o y) l ≡ true → All (λ x. at_level o.pair o.side o.price x ≡ false) l → All (λ x. ahead x o ≡ false) l
+  not_ahead : (o : Order T) (l : List (Order T)) → list_all (λ y. ahead o y) l ≡ true → AllByRecursion (λ x. at_level o.pair o.side o.price x ≡ false) l → AllByRecursion (λ x. ahead x o ≡ false) l
   not_ahead o [] h n = tt
   not_ahead o (x ∷ l) h n =
       let p = and_parts _ _ h in
@@ -237,5 +237,5 @@ module _ {T : Type 0} where
   after_middle [] o b h = (and_parts _ _ h).0
   after_middle (x ∷ a) o b h = after_middle a o b (and_parts _ _ h).1
 
-  pub one_place : (o : Order T) (a b : List (Order T)) → in_order (a ++ (o ∷ b)) ≡ true → All (λ x. at_level o.pair o.side o.price x ≡ false) b → a ++ (o ∷ b) ≡ placed o (a ++ b)
+  pub one_place : (o : Order T) (a b : List (Order T)) → in_order (a ++ (o ∷ b)) ≡ true → AllByRecursion (λ x. at_level o.pair o.side o.price x ≡ false) b → a ++ (o ∷ b) ≡ placed o (a ++ b)
   one_place o a b h n = sym (placed_between o a b (all_from_all_pass (λ x. ahead x o) a (middle_ahead a o b h)) (not_ahead o b (after_middle a o b h) n))

@@ -1,6 +1,6 @@
 -- The laws of ladders that callers of a book need.
 use Rattle.std.specs.Prelude.{◌≡◌, ℕ, ◌+◌, ◌≤◌, true, false, cond, ◌&&◌, List, [], ◌∷◌, ◌++◌, length, is_some, Some, None, Decides}
-use Rattle.std.specs.List.{AllByRecursion as All}
+use Rattle.std.specs.List.{AllByRecursion}
 use Rattle.std.specs.Str.{bytes_eq}
 use Rattle.std.specs.Option.{option_map}
 use Rattle.fields.specs.declared.values.Pair.{Pair}
@@ -16,7 +16,7 @@ pub record LadderLaws (T : Type 0) : Type 0 where
   pub placed_is : (o : Order T) (l : List (Order T)) → in_order l ≡ true → Placed o l (placed o l)
   pub placed_only : (o : Order T) (l l' : List (Order T)) → Placed o l l' → l' ≡ placed o l
   -- the place is the only one at which the ladder stays in order with no order of the same pair, side and price behind
-  pub one_place : (o : Order T) (front back : List (Order T)) → in_order (front ++ (o ∷ back)) ≡ true → All (λ x. at_level o.pair o.side o.price x ≡ false) back → front ++ (o ∷ back) ≡ placed o (front ++ back)
+  pub one_place : (o : Order T) (front back : List (Order T)) → in_order (front ++ (o ∷ back)) ≡ true → AllByRecursion (λ x. at_level o.pair o.side o.price x ≡ false) back → front ++ (o ∷ back) ≡ placed o (front ++ back)
   -- placing a ladder's own orders, in order, into an empty ladder gives that ladder
   pub placed_own : (l : List (Order T)) → Ladder l → placed_all [] l ≡ l
   -- each change keeps a ladder a ladder

@@ -4,7 +4,7 @@ use Rattle.std.specs.Prelude.{◌≡◌, ℕ, zero, suc, ◌<◌, ◌≤◌, Boo
 use Rattle.std.proofs.Math.Path.{refl, sym, ap, ap₂, subst}
 use Rattle.std.proofs.Common.{◌∙◌, arith}
 use denote.Struct.Props.{props}
-use Rattle.std.specs.List.{AllWithin, HoldsAt, insert, remove, AllByRecursion as All, list_all}
+use Rattle.std.specs.List.{AllWithin, HoldsAt, insert, remove, AllByRecursion, list_all}
 use Rattle.std.proofs.lemmas.Bool.{and_parts, and_from}
 use Rattle.fields.specs.declared.values.Pair.{Pair}
 use Rattle.fields.specs.declared.values.Price.{Price}
@@ -99,7 +99,7 @@ module _ {R : Type 0} where
 
     -- a test of the orders that is a test of their rows
     module _ (t : Order T → Bool) (q : Row R → Bool) (alike : (r : Row R) (F : Formed r) → t (order_of_lem given r F) ≡ q r) where
-      all_orders : (rs : List (Row R)) (f : all_formed rs ≡ true) → AllWithin (λ x. q x ≡ false) rs 0 (length rs) → All (λ x. t x ≡ false) (orders given rs f)
+      all_orders : (rs : List (Row R)) (f : all_formed rs ≡ true) → AllWithin (λ x. q x ≡ false) rs 0 (length rs) → AllByRecursion (λ x. t x ≡ false) (orders given rs f)
       all_orders [] f h = tt
       all_orders (r ∷ rs) f h = (alike r _ ∙ h 0 r (omega arith) (omega arith), all_orders rs (rest_formed r rs f) (tail_every (λ x. q x ≡ false) r rs (length rs) h))
 

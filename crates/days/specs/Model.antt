@@ -1,6 +1,6 @@
 -- What packets do to a session's state and its ladder, and what a stream of bytes means.
 use Rattle.std.specs.Prelude.{◌≡◌, ℕ, ◌+◌, ◌<◌, ◌≤◌, Bool, true, false, cond, ◌||◌, ◌⊎◌, List, [], ◌∷◌, ◌++◌, length, drop, None, Ok, Err, Result, ◌==◌}
-use Rattle.std.specs.List.{AllByRecursion as All}
+use Rattle.std.specs.List.{AllByRecursion}
 use Rattle.fields.specs.declared.values.TimeOfDay.{TimeOfDay}
 use Rattle.book.specs.declared.order.Order.{Order}
 use Rattle.book.specs.Ladder.{Ladder}
@@ -35,7 +35,7 @@ pub record Rules (T : Type 0) : Type 0 where
   pub writes : List ℕ → List (Order T) → List ℕ
 
 abbrev pub NoLF : List ℕ → Type 0
-NoLF bs = All (λ b. (b == 10) ≡ false) bs
+NoLF bs = AllByRecursion (λ b. (b == 10) ≡ false) bs
 
 -- A, J, H and E are taken while waiting; S, H, E and R while open; none when closed
 abbrev pub takes : State → ℕ → Bool
@@ -140,7 +140,7 @@ abbrev pub Sound : {T : Type 0} → Said T → Type 0
 Sound (new o) = Unit {0}
 Sound (modify x) = x.price ≡ None → x.replaced ≡ None
 Sound (cancel x) = Unit {0}
-Sound (listing ms) = Distinct ms × All (λ o. lists (pairs_listed ms) o.pair ≡ true) (orders_put ms)
+Sound (listing ms) = Distinct ms × AllByRecursion (λ o. lists (pairs_listed ms) o.pair ≡ true) (orders_put ms)
 Sound blank = Unit {0}
 Sound trade = Unit {0}
 Sound volume = Unit {0}

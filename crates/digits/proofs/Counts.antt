@@ -1,7 +1,7 @@
 -- The laws of the decimals: the count is unique, what is written reads back, and it fits its field.
 use Rattle.std.proofs.Common.{◌≡◌, ℕ, zero, suc, ◌+◌, ◌-◌, ◌*◌, ◌/◌, ◌%◌, ◌^◌, ◌<◌, ◌≤◌, eqb, List, [], ◌∷◌, length, replicate, decimal, sym, ap, ◌∙◌, ⊎_elim, mod-lt, mul_assoc, mul_comm, div-lt_iff_lt-mul, add-mul, pow-suc, div-add-mod', mul-one, div-le_self, arith, pow-add, rules}
 use native.Mathlib.Nat.{pow-zero}
-use Rattle.std.specs.List.{AllByRecursion as All}
+use Rattle.std.specs.List.{AllByRecursion}
 use Rattle.std.proofs.lemmas.Bool.{cond_both, eqb-true}
 use Rattle.std.proofs.lemmas.List.{length-append, append_assoc}
 use Rattle.std.proofs.lemmas.Fmt.{digits_decimal, digits_value-decimal, length-decimal-le, decimal_nonempty}
@@ -27,13 +27,13 @@ one_count k bs m n a b =
     (λ p. ⊎_elim (λ q. absurd (apart k bs n m q p)) (λ q. p.count ∙ sym q.count) (decimal_shape k bs n b))
     (decimal_shape k bs m a)
 
-pub own : IsNumeralModel (All Digit) (read_on 0)
-own = numerals_by_fold (All Digit) (search rules) read_on (search rules)
+pub own : IsNumeralModel (AllByRecursion Digit) (read_on 0)
+own = numerals_by_fold (AllByRecursion Digit) (search rules) read_on (search rules)
 
-pub decimals_digits : (k r : ℕ) → r < 10 ^ k → All Digit (decimals k r)
+pub decimals_digits : (k r : ℕ) → r < 10 ^ k → AllByRecursion Digit (decimals k r)
 decimals_digits zero r h = tt
 decimals_digits (suc k) r h =
-    cond_both (eqb r 0) [] ((48 + r / 10 ^ k) ∷ decimals k (r % 10 ^ k)) (All Digit) (λ e. tt)
+    cond_both (eqb r 0) [] ((48 + r / 10 ^ k) ∷ decimals k (r % 10 ^ k)) (AllByRecursion Digit) (λ e. tt)
     (λ e.
     let d : r / 10 ^ k < 10 = (div-lt_iff_lt-mul (pow10_pos k)).1 (omega (arith, pow-suc 10 k)) in
     ((omega arith, omega arith), decimals_digits k (r % 10 ^ k) (mod-lt r (pow10_pos k))))

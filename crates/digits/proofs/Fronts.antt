@@ -1,7 +1,7 @@
 -- The digits that a list begins with.
 use Rattle.std.proofs.Common.{◌≡◌, ℕ, zero, suc, ◌+◌, ◌*◌, ◌^◌, ◌<◌, ◌≤◌, true, false, List, [], ◌∷◌, ◌++◌, length, get_or, drop, replicate, sym, refl, ap, ◌∙◌, subst, mul-le-mul_right, pow-suc, add-one, arith, pow-add}
 use native.Mathlib.Nat.{pow-le-pow_right}
-use Rattle.std.specs.List.{AllByRecursion as All}
+use Rattle.std.specs.List.{AllByRecursion}
 use Rattle.std.specs.Char.{is_ascii_digit}
 use Rattle.std.proofs.lemmas.Bool.{cond-true, cond-false, cond_both}
 use Rattle.std.proofs.lemmas.Bool.Decides.{nat_tests}
@@ -24,13 +24,13 @@ front_stop xs i l h = at_drop_more front xs i 0 l ∙ cond-false _ _ _ h
 pub front_end : (xs : List ℕ) (i : ℕ) → length xs ≤ i → front (drop i xs) ≡ []
 front_end xs i l = at_drop_all front xs i l
 
-pub front-append : (ws rest : List ℕ) → All Digit ws → front rest ≡ [] → front (ws ++ rest) ≡ ws
+pub front-append : (ws rest : List ℕ) → AllByRecursion Digit ws → front rest ≡ [] → front (ws ++ rest) ≡ ws
 front-append [] rest d n = n
 front-append (c ∷ cs) rest d n = cond-true _ _ _ (digit_test c d.0) ∙ ap (λ l. c ∷ l) (front-append cs rest d.1 n)
 
-pub front_digits : (bs : List ℕ) → All Digit (front bs)
+pub front_digits : (bs : List ℕ) → AllByRecursion Digit (front bs)
 front_digits [] = tt
-front_digits (c ∷ cs) = cond_both (is_ascii_digit c) (c ∷ front cs) [] (All Digit) (λ e. (digit_from_test c e, front_digits cs)) (λ e. tt)
+front_digits (c ∷ cs) = cond_both (is_ascii_digit c) (c ∷ front cs) [] (AllByRecursion Digit) (λ e. (digit_from_test c e, front_digits cs)) (λ e. tt)
 
 pub front_past : (bs : List ℕ) → bs ≡ front bs ++ drop (length (front bs)) bs
 front_past [] = refl
@@ -50,14 +50,14 @@ digit_room n i d h k l =
     let m = pow10_le (i + 1) 18 (omega arith) in
     (omega arith, omega arith)
 
-pub spaces_more : (xs : List ℕ) (i : ℕ) → i < length xs → get_or xs i 0 ≡ 32 → All Space (drop (i + 1) xs) → All Space (drop i xs)
-spaces_more xs i l h t = subst (All Space) (sym (drop_more xs i 0 l)) (h, t)
+pub spaces_more : (xs : List ℕ) (i : ℕ) → i < length xs → get_or xs i 0 ≡ 32 → AllByRecursion Space (drop (i + 1) xs) → AllByRecursion Space (drop i xs)
+spaces_more xs i l h t = subst (AllByRecursion Space) (sym (drop_more xs i 0 l)) (h, t)
 
-pub spaces_rest : (xs : List ℕ) (i : ℕ) → i < length xs → All Space (drop i xs) → (get_or xs i 0 ≡ 32) × All Space (drop (i + 1) xs)
-spaces_rest xs i l h = subst (All Space) (drop_more xs i 0 l) h
+pub spaces_rest : (xs : List ℕ) (i : ℕ) → i < length xs → AllByRecursion Space (drop i xs) → (get_or xs i 0 ≡ 32) × AllByRecursion Space (drop (i + 1) xs)
+spaces_rest xs i l h = subst (AllByRecursion Space) (drop_more xs i 0 l) h
 
-pub spaces_end : (xs : List ℕ) (i : ℕ) → length xs ≤ i → All Space (drop i xs)
-spaces_end xs i l = subst (All Space) (sym (drop_all i xs l)) tt
+pub spaces_end : (xs : List ℕ) (i : ℕ) → length xs ≤ i → AllByRecursion Space (drop i xs)
+spaces_end xs i l = subst (AllByRecursion Space) (sym (drop_all i xs l)) tt
 
 pub scaled_room : (a i b j : ℕ) → a < 10 ^ i → b ≡ 10 ^ j → i + j ≤ 18 → a * b < 2 ^ 63
 scaled_room a i b j h e k =
@@ -66,6 +66,6 @@ scaled_room a i b j h e k =
     let le : a * 10 ^ j ≤ 10 ^ i * 10 ^ j = mul-le-mul_right (10 ^ j) (omega arith) in
     omega (arith, ap (λ x. a * x) e)
 
-pub spaces_replicate : (n : ℕ) → All Space (replicate n 32)
+pub spaces_replicate : (n : ℕ) → AllByRecursion Space (replicate n 32)
 spaces_replicate zero = tt
 spaces_replicate (suc n) = (refl, spaces_replicate n)

@@ -1,7 +1,7 @@
 -- Integers and decimals as they stand in a field, for every width and number of places.
 use Rattle.std.specs.Prelude.{◌≡◌, ℕ, ◌+◌, ◌-◌, ◌*◌, ◌^◌, ◌<◌, ◌≤◌, cond, List, [], ◌∷◌, ◌++◌, length}
 use Rattle.std.specs.Char.{is_ascii_digit}
-use Rattle.std.specs.List.{AllByRecursion as All}
+use Rattle.std.specs.List.{AllByRecursion}
 use Rattle.digits.specs.Bytes.{Digit, Space}
 
 -- the number that digits write after those of n
@@ -28,8 +28,8 @@ pub record Whole (bs : List ℕ) (n : ℕ) : Type 0 where
   pub gap : List ℕ
   pub figures : List ℕ
   pub form : bs ≡ gap ++ figures
-  pub gap_spaces : All Space gap
-  pub figures_digits : All Digit figures
+  pub gap_spaces : AllByRecursion Space gap
+  pub figures_digits : AllByRecursion Digit figures
   pub figures_some : 0 < length figures
   pub count : n ≡ numeral figures
 
@@ -40,10 +40,10 @@ pub record Decimal (places : ℕ) (bs : List ℕ) (n : ℕ) : Type 0 where
   pub part : List ℕ
   pub pad : List ℕ
   pub form : bs ≡ whole ++ (pointed part ++ pad)
-  pub whole_digits : All Digit whole
+  pub whole_digits : AllByRecursion Digit whole
   pub whole_some : 0 < length whole
-  pub part_digits : All Digit part
-  pub pad_spaces : All Space pad
+  pub part_digits : AllByRecursion Digit part
+  pub pad_spaces : AllByRecursion Space pad
   pub part_few : length part ≤ places
   pub count : n ≡ numeral (whole ++ part) * 10 ^ (places - length part)
 

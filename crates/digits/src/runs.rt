@@ -1,6 +1,6 @@
 // Runs of digits and of spaces.
 ghost use Rattle.std.specs.Prelude.{◌≡◌, ◌+◌, ◌-◌, ◌*◌, ◌^◌, ◌<◌, ◌≤◌, ◌++◌, length, take, drop, replicate, decimal as figures, Decides, slice_index, slice_set};
-ghost use Rattle.std.specs.List.{AllByRecursion as All};
+ghost use Rattle.std.specs.List.{AllByRecursion};
 ghost use Rattle.digits.specs.Bytes.{Digit, Space};
 ghost use Rattle.digits.specs.Numerals.{front, read_on};
 
@@ -34,7 +34,7 @@ pub(crate) fn run(s: &[u8], from: usize, n: u64) -> (usize, u64)
 // Where the spaces end with which `s` begins.
 pub(crate) fn skip_spaces(s: &[u8]) -> usize
     ensures within { result ≤ length s.now }
-    ensures before { All Space (take result s.now) }
+    ensures before { AllByRecursion Space (take result s.now) }
     ensures stops { result < length s.now → Space (slice_index s.now result) → ⊥ }
 {
     let mut at = 0;
@@ -46,7 +46,7 @@ pub(crate) fn skip_spaces(s: &[u8]) -> usize
 
 // Whether all bytes from `from` on are spaces.
 pub fn spaces(s: &[u8], from: usize) -> bool
-    ensures { Decides result (All Space (drop from s.now)) }
+    ensures { Decides result (AllByRecursion Space (drop from s.now)) }
 {
     let mut at = from;
     while at < s.len() {

@@ -1,7 +1,7 @@
 -- What is written is the tidy decimal.
 use Rattle.std.proofs.Common.{◌≡◌, ℕ, zero, suc, ◌+◌, ◌-◌, ◌*◌, ◌/◌, ◌%◌, ◌^◌, ◌<◌, ◌≤◌, true, false, cond, eqb, ◌⊎◌, List, [], ◌∷◌, ◌++◌, length, get_or, take, drop, replicate, decimal, sym, refl, ap, ◌∙◌, subst, inl, inr, ⊎_elim, mul-le-mul_right, mod-lt, mod-eq_of_lt, mul_assoc, mul_comm, div-lt_iff_lt-mul, add-mul, pow-suc, div-add-mod', zero-mul, div-le_self, arith, pow-add}
 use native.Mathlib.Nat.{mul-add-div_right, mul-add-mod_self_right, div-eq_of_lt}
-use Rattle.std.specs.List.{AllByRecursion as All}
+use Rattle.std.specs.List.{AllByRecursion}
 use Rattle.std.proofs.lemmas.Bool.{cond_both, cond-false, ne_eqb, eqb-true, eqb-false, cases_lt}
 use Rattle.std.proofs.lemmas.List.{length-append, append_assoc}
 use Rattle.std.proofs.lemmas.Fmt.{decimal_digit, first_decimal, decimal-digits_value}
@@ -56,7 +56,7 @@ read_on_from a (d ∷ ds) =
     read_on_from (a * 10 + x) ds ∙ ap (λ m. m + read_on 0 ds) (add-mul (a * 10) x (10 ^ length ds) ∙ ap (λ m. m + x * 10 ^ length ds) (mul_assoc a 10 (10 ^ length ds) ∙ ap (λ m. a * m) (sym p)))
     ∙ omega (arith, read_on_from x ds, ap (λ m. read_on m ds) z)
 
-value_below : (ds : List ℕ) → All Digit ds → read_on 0 ds < 10 ^ length ds
+value_below : (ds : List ℕ) → AllByRecursion Digit ds → read_on 0 ds < 10 ^ length ds
 value_below ds d = digits_value_short own ds (length ds) d (omega arith)
 
 split_pow : (l k : ℕ) → l ≤ k → 10 ^ l * 10 ^ (k - l) ≡ 10 ^ k
@@ -67,7 +67,7 @@ shift a k ds h =
     let u = 10 ^ (k - length ds) in
     ap (λ x. x * u) (read_on_from a ds) ∙ add-mul (a * 10 ^ length ds) (read_on 0 ds) u ∙ ap (λ x. x + read_on 0 ds * u) (mul_assoc a (10 ^ length ds) u ∙ ap (λ x. a * x) (split_pow (length ds) k h))
 
-below : (k : ℕ) (ds : List ℕ) → All Digit ds → length ds ≤ k → read_on 0 ds * 10 ^ (k - length ds) < 10 ^ k
+below : (k : ℕ) (ds : List ℕ) → AllByRecursion Digit ds → length ds ≤ k → read_on 0 ds * 10 ^ (k - length ds) < 10 ^ k
 below k ds d h =
     let u = 10 ^ (k - length ds) in
     let b = value_below ds d in
@@ -79,7 +79,7 @@ parts : (k q s : ℕ) → s < 10 ^ k → ((q * 10 ^ k + s) / 10 ^ k ≡ q) × ((
 parts k q s h =
     (mul-add-div_right (pow10_pos k) q s ∙ ap (λ x. q + x) (div-eq_of_lt h) ∙ omega arith, mul-add-mod_self_right q (10 ^ k) s ∙ mod-eq_of_lt h)
 
-positive : (ds : List ℕ) → All Digit ds → Trimmed ds → 0 < length ds → 0 < read_on 0 ds
+positive : (ds : List ℕ) → AllByRecursion Digit ds → Trimmed ds → 0 < length ds → 0 < read_on 0 ds
 positive [] d t h = absurd (omega arith)
 positive (c ∷ []) d t h =
     let a = d.0 in
@@ -89,7 +89,7 @@ positive (c ∷ (e ∷ ds)) d t h = omega (arith, read_on_from (0 * 10 + (c - 48
 mul_pos : (a b : ℕ) → 0 < a → 0 < b → 0 < a * b
 mul_pos a b h k = let le : 1 * b ≤ a * b = mul-le-mul_right b h in omega arith
 
-part_is : (k : ℕ) (ds : List ℕ) → All Digit ds → length ds ≤ k → Trimmed ds → decimals k (read_on 0 ds * 10 ^ (k - length ds)) ≡ ds
+part_is : (k : ℕ) (ds : List ℕ) → AllByRecursion Digit ds → length ds ≤ k → Trimmed ds → decimals k (read_on 0 ds * 10 ^ (k - length ds)) ≡ ds
 part_is k [] d h t = ap (decimals k) (zero-mul (10 ^ (k - 0))) ∙ decimals_none k
 part_is zero (c ∷ ds) d h t = absurd (omega arith)
 part_is (suc k) (c ∷ ds) d h t =
@@ -112,7 +112,7 @@ part_is (suc k) (c ∷ ds) d h t =
     trimmed_rest c [] t = tt
     trimmed_rest c (e ∷ ds) t = t
 
-spaces_are : (xs : List ℕ) → All Space xs → xs ≡ replicate (length xs) 32
+spaces_are : (xs : List ℕ) → AllByRecursion Space xs → xs ≡ replicate (length xs) 32
 spaces_are [] s = refl
 spaces_are (x ∷ xs) s = ap (λ c. c ∷ xs) s.0 ∙ ap (λ l. 32 ∷ l) (spaces_are xs s.1)
 

@@ -1,6 +1,6 @@
 -- The laws of the fields.
 use Rattle.std.proofs.Common.{◌≡◌, ℕ, ◌+◌, ◌-◌, ◌^◌, ◌<◌, ◌≤◌, eqb, ◌⊎◌, List, [], ◌∷◌, ◌++◌, length, get_or, replicate, Ok, Err, decimal, Result, sym, refl, ap, ◌∙◌, subst, inl, inr, ⊎_elim, arith}
-use Rattle.std.specs.List.{AllByRecursion as All}
+use Rattle.std.specs.List.{AllByRecursion}
 use Rattle.std.proofs.lemmas.Bool.{cond_both, eqb-true, eqb-false, cases_lt}
 use Rattle.std.proofs.ByRecursion.{All-append, All-weaker, All-from_get_or}
 use Rattle.std.proofs.lemmas.Fmt.{digits_decimal, digits_value-decimal, length-decimal-le, decimal_nonempty}
@@ -37,25 +37,25 @@ back_reads Field value text one same back v (Ok w) h = ap Ok (same w v (one (tex
 back_reads Field value text one same back v (Err e) h = absurd (h.1 (value v) (back v))
 
 -- digits, points and spaces are printable
-printable_digits : (ds : List ℕ) → All Digit ds → All Printable ds
+printable_digits : (ds : List ℕ) → AllByRecursion Digit ds → AllByRecursion Printable ds
 printable_digits ds = All-weaker Digit Printable (λ x d. (omega arith, omega arith)) ds
 
-printable_spaces : (bs : List ℕ) → All Space bs → All Printable bs
+printable_spaces : (bs : List ℕ) → AllByRecursion Space bs → AllByRecursion Printable bs
 printable_spaces bs = All-weaker Space Printable (λ x s. (omega arith, omega arith)) bs
 
-printable_pointed : (ds : List ℕ) → All Digit ds → All Printable (pointed ds)
+printable_pointed : (ds : List ℕ) → AllByRecursion Digit ds → AllByRecursion Printable (pointed ds)
 printable_pointed [] d = tt
 printable_pointed (c ∷ cs) d = ((omega arith, omega arith), printable_digits (c ∷ cs) d)
 
-printable_decimal : (k : ℕ) (bs : List ℕ) (n : ℕ) → Decimal k bs n → All Printable bs
+printable_decimal : (k : ℕ) (bs : List ℕ) (n : ℕ) → Decimal k bs n → AllByRecursion Printable bs
 printable_decimal k bs n d =
-    subst (All Printable) (sym d.form)
+    subst (AllByRecursion Printable) (sym d.form)
     (All-append Printable d.whole (pointed d.part ++ d.pad) (printable_digits _ d.whole_digits)
     (All-append Printable (pointed d.part) d.pad (printable_pointed d.part d.part_digits) (printable_spaces _ d.pad_spaces)))
 
-printable_whole : (bs : List ℕ) (n : ℕ) → Whole bs n → All Printable bs
+printable_whole : (bs : List ℕ) (n : ℕ) → Whole bs n → AllByRecursion Printable bs
 printable_whole bs n w =
-    subst (All Printable) (sym w.form) (All-append Printable w.gap w.figures (printable_spaces _ w.gap_spaces) (printable_digits _ w.figures_digits))
+    subst (AllByRecursion Printable) (sym w.form) (All-append Printable w.gap w.figures (printable_spaces _ w.gap_spaces) (printable_digits _ w.figures_digits))
 
 price_one : (bs : List ℕ) (m n : ℕ) → PriceField bs m → PriceField bs n → m ≡ n
 price_one bs m n a b = one_count 5 bs m n a.0.decimal b.0.decimal
@@ -176,7 +176,7 @@ pair_back : (v : Pair) → PairField v.bytes v.bytes
 pair_back v = ((paired_decides v.bytes).0 v.ok, refl)
 
 -- each of the seven bytes is a letter or the slash
-printable_pair : (bs : List ℕ) → Paired bs → All Printable bs
+printable_pair : (bs : List ℕ) → Paired bs → AllByRecursion Printable bs
 printable_pair bs p =
     All-from_get_or Printable bs 0
     (λ i l.

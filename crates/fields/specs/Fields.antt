@@ -1,6 +1,6 @@
 -- The grammar of each field: which bytes are the field of which number or text; and the text that is written.
 use Rattle.std.specs.Prelude.{◌≡◌, ℕ, cond, ◌⊎◌, List, [], length, decimal, ◌==◌}
-use Rattle.std.specs.List.{AllByRecursion as All}
+use Rattle.std.specs.List.{AllByRecursion}
 use Rattle.digits.specs.Bytes.{Space}
 use Rattle.digits.specs.Numerals.{DecimalField, Whole}
 use Rattle.fields.specs.Ranges.{PriceCount, AmountCount, QuantityCount, IntegerValue}
@@ -17,7 +17,7 @@ AmountField bs n = DecimalField 16 2 bs n × AmountCount n
 
 -- 16 spaces
 abbrev pub BlankField : List ℕ → Type 0
-BlankField bs = (length bs ≡ 16) × All Space bs
+BlankField bs = (length bs ≡ 16) × AllByRecursion Space bs
 
 -- an amount's field, that may also be zero or all spaces, which count 0
 abbrev pub QuantityField : List ℕ → ℕ → Type 0

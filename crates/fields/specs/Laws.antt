@@ -1,6 +1,6 @@
 -- The laws of the fields.
 use Rattle.std.specs.Prelude.{◌≡◌, ℕ, List, length, Ok, Result}
-use Rattle.std.specs.List.{AllByRecursion as All}
+use Rattle.std.specs.List.{AllByRecursion}
 use Rattle.fields.specs.declared.fault.Fault.{Fault}
 use Rattle.fields.specs.declared.values.Price.{Price}
 use Rattle.fields.specs.declared.values.Amount.{Amount}
@@ -19,7 +19,7 @@ pub record Codec {V X : Type 0} (width : ℕ) (Field : List ℕ → X → Type 0
   pub one : (bs : List ℕ) (x y : X) → Field bs x → Field bs y → x ≡ y
   -- they are as many as the field is wide, and printable
   pub long : (bs : List ℕ) (x : X) → Field bs x → length bs ≡ width
-  pub printable : (bs : List ℕ) (x : X) → Field bs x → All Printable bs
+  pub printable : (bs : List ℕ) (x : X) → Field bs x → AllByRecursion Printable bs
   -- whatever stands in a field is the one value's
   pub made : (bs : List ℕ) (x : X) → Field bs x → (v : V) × (value v ≡ x)
   pub same : (v w : V) → value v ≡ value w → v ≡ w

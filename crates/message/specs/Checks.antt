@@ -1,6 +1,6 @@
 -- Which check of a message on one order fails first: the fields in layout order, each with its offset.
 use Rattle.std.specs.Prelude.{◌≡◌, ℕ, ◌+◌, Bool, true, false, cond, List, [], ◌∷◌, ◌++◌, length, is_some, Some, None, Ok, Err, Option, Result}
-use Rattle.std.specs.List.{AllByRecursion as All}
+use Rattle.std.specs.List.{AllByRecursion}
 use Rattle.book.specs.Ladder.{OrderId}
 use Rattle.readers.specs.Values.{pair_of, label_of, price_of, amount_of, side_of, optional_of, PriceIs, LabelIs, OptionalIs}
 use Rattle.venue.specs.Form as venue
@@ -60,7 +60,7 @@ pub record FirstBad (cs : List Check) (p : ℕ) : Type 0 where
   pub bad : Check
   pub back : List Check
   pub split : cs ≡ front ++ (bad ∷ back)
-  pub passed : All (λ c. c.passes ≡ true) front
+  pub passed : AllByRecursion (λ c. c.passes ≡ true) front
   pub fails : bad.passes ≡ false
   pub offset : bad.at ≡ p
 

@@ -4,7 +4,7 @@ use Rattle.std.proofs.Math.Path.{sym, ap}
 use Rattle.std.proofs.Common.{◌∙◌, arith}
 use Rattle.std.proofs.Math.Logic.{⊎_elim}
 use Rattle.std.specs.Option.{option_map}
-use Rattle.std.specs.List.{AllByRecursion as All}
+use Rattle.std.specs.List.{AllByRecursion}
 use Rattle.std.proofs.lemmas.Bool.{cond-true, cond-false, cases_Bool}
 use Rattle.std.proofs.lemmas.Bool.Decides.{Decides-and, Decides-eqb}
 use Rattle.digits.specs.Bytes.{Space}
@@ -14,11 +14,11 @@ use Rattle.readers.specs.Values.{blank, optional_of, PairIs, LabelIs, TimeIs, Pr
 use Rattle.readers.specs.Laws.{FieldLaw, BlankFree}
 use Rattle.readers.specs.Exacts.{spaced_decides, blank_whole}
 
-pub blank_decides : (w : ℕ) (bs : List ℕ) → Decides (blank w bs) ((length bs ≡ w) × All Space bs)
+pub blank_decides : (w : ℕ) (bs : List ℕ) → Decides (blank w bs) ((length bs ≡ w) × AllByRecursion Space bs)
 blank_decides w bs = Decides-and _ _ (Decides-eqb (length bs) w) (spaced_decides bs)
 
 -- Which fields are never all spaces: those that have a first byte, which is no space.
-first_space : (bs : List ℕ) → All Space bs → 0 < length bs → slice_index bs 0 ≡ 32
+first_space : (bs : List ℕ) → AllByRecursion Space bs → 0 < length bs → slice_index bs 0 ≡ 32
 first_space [] s l = absurd (omega arith)
 first_space (c ∷ cs) s l = s.0
 
@@ -55,11 +55,11 @@ mapped_some (Some x) v e = cc
 
 module _ {V : Type 0} (w : ℕ) (reads : List ℕ → Option V) where
   -- what is read of spaces, and of other bytes
-  pub blank_read : (bs : List ℕ) → (length bs ≡ w) × All Space bs → Some None ≡ optional_of w reads bs
+  pub blank_read : (bs : List ℕ) → (length bs ≡ w) × AllByRecursion Space bs → Some None ≡ optional_of w reads bs
   unfolding optional_of
   blank_read bs h = sym (cond-true _ _ _ ((blank_decides w bs).1 h))
 
-  pub filled_read : (bs : List ℕ) → ((length bs ≡ w) × All Space bs → ⊥) → option_map Some (reads bs) ≡ optional_of w reads bs
+  pub filled_read : (bs : List ℕ) → ((length bs ≡ w) × AllByRecursion Space bs → ⊥) → option_map Some (reads bs) ≡ optional_of w reads bs
   unfolding optional_of
   filled_read bs h = ⊎_elim (λ t. absurd (h ((blank_decides w bs).0 t))) (λ f. sym (cond-false _ _ _ f)) (cases_Bool (blank w bs))
 

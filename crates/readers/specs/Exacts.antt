@@ -5,7 +5,7 @@ use Rattle.std.proofs.Common.{subst, ◌∙◌, inl, inr, ⊎_elim, arith}
 use Rattle.std.specs.Option.{option_or}
 use Rattle.std.specs.Bool.{then_some}
 use Rattle.std.specs.Char.{is_ascii_digit}
-use Rattle.std.specs.List.{AllByRecursion as All}
+use Rattle.std.specs.List.{AllByRecursion}
 use Rattle.std.proofs.lemmas.Bool.{cond-true, cond-false, cond_both, cases_Bool, cases_lt, eqb-true, eq-eqb, ne_eqb}
 use Rattle.std.proofs.lemmas.List.{get_or_past, append-nil}
 use Rattle.std.proofs.lemmas.Bool.Decides.{Decides-eqb, Decides-ltb, Decides-and}
@@ -30,21 +30,21 @@ first_some : {X : Type 0} (a b : Bool) (x y z : X) → option_or (then_some a x)
 first_some true b x y z e = inl (refl, cc)
 first_some false b x y z e = inr (when_some b y z e)
 
-pub spaced_decides : (bs : List ℕ) → Decides (spaced bs) (All Space bs)
+pub spaced_decides : (bs : List ℕ) → Decides (spaced bs) (AllByRecursion Space bs)
 spaced_decides = Decides-by_and (λ c. nat_eq c 32) Space spaced (λ c. Decides-eqb c 32) refl (λ _ _. refl)
 
-figured_decides : (bs : List ℕ) → Decides (figured bs) (All Digit bs)
+figured_decides : (bs : List ℕ) → Decides (figured bs) (AllByRecursion Digit bs)
 figured_decides = Decides-by_and is_ascii_digit Digit figured (λ c. (digit_from_test c, digit_test c)) refl (λ _ _. refl)
 
 -- Integers.
-split_spaces : (bs : List ℕ) → (gap : List ℕ) × (bs ≡ gap ++ unspaced bs) × All Space gap
+split_spaces : (bs : List ℕ) → (gap : List ℕ) × (bs ≡ gap ++ unspaced bs) × AllByRecursion Space gap
 split_spaces [] = ([], refl, tt)
 split_spaces (c ∷ cs) =
-    cond_both (c == 32) (unspaced cs) (c ∷ cs) (λ u. (gap : List ℕ) × ((c ∷ cs) ≡ gap ++ u) × All Space gap)
+    cond_both (c == 32) (unspaced cs) (c ∷ cs) (λ u. (gap : List ℕ) × ((c ∷ cs) ≡ gap ++ u) × AllByRecursion Space gap)
     (λ e. let more = split_spaces cs in (c ∷ more.0, ap (λ l. c ∷ l) more.1, (eqb-true c 32 e, more.2)))
     (λ e. ([], refl, tt))
 
-unspaced_figures : (gap figures : List ℕ) → All Space gap → All Digit figures → unspaced (gap ++ figures) ≡ figures
+unspaced_figures : (gap figures : List ℕ) → AllByRecursion Space gap → AllByRecursion Digit figures → unspaced (gap ++ figures) ≡ figures
 unspaced_figures [] [] s d = refl
 unspaced_figures [] (f ∷ fs) s d = let k = d.0 in cond-false _ _ _ (ne_eqb f 32 (λ e. omega arith))
 unspaced_figures (c ∷ cs) figures s d = cond-true _ _ _ (eq-eqb c 32 s.0) ∙ unspaced_figures cs figures s.1 d
@@ -52,7 +52,7 @@ unspaced_figures (c ∷ cs) figures s d = cond-true _ _ _ (eq-eqb c 32 s.0) ∙ 
 whole_figures : (bs : List ℕ) (n : ℕ) (w : Whole bs n) → unspaced bs ≡ w.figures
 whole_figures bs n w = ap unspaced w.form ∙ unspaced_figures w.gap w.figures w.gap_spaces w.figures_digits
 
-whole_decides : (bs : List ℕ) → Decides (nat_lt 0 (length (unspaced bs)) && figured (unspaced bs)) ((0 < length (unspaced bs)) × All Digit (unspaced bs))
+whole_decides : (bs : List ℕ) → Decides (nat_lt 0 (length (unspaced bs)) && figured (unspaced bs)) ((0 < length (unspaced bs)) × AllByRecursion Digit (unspaced bs))
 whole_decides bs = Decides-and _ _ (Decides-ltb 0 (length (unspaced bs))) (figured_decides (unspaced bs))
 
 pub whole_exact : Exact Whole whole_of
@@ -65,21 +65,21 @@ whole_exact = record {
       record { gap = p.0; figures = unspaced bs; form = p.1; gap_spaces = p.2; figures_digits = d.1; figures_some = d.0; count = sym h.1 };
   complete = λ bs n w.
       let u = whole_figures bs n w in
-      let t = (whole_decides bs).1 (omega (arith, ap length u, w.figures_some), subst (All Digit) (sym u) w.figures_digits) in
+      let t = (whole_decides bs).1 (omega (arith, ap length u, w.figures_some), subst (AllByRecursion Digit) (sym u) w.figures_digits) in
       ap (λ b. then_some b (numeral (unspaced bs))) t ∙ ap Some (ap numeral u ∙ sym w.count);
 }
 
 -- spaces alone are no integer
-pub blank_whole : (bs : List ℕ) (n : ℕ) → Whole bs n → All Space bs → ⊥
+pub blank_whole : (bs : List ℕ) (n : ℕ) → Whole bs n → AllByRecursion Space bs → ⊥
 blank_whole bs n w s =
     let none : unspaced bs ≡ [] = ap unspaced (sym (append-nil bs)) ∙ unspaced_figures bs [] s tt in
     omega (arith, w.figures_some, ap length (sym (whole_figures bs n w) ∙ none))
 
 -- Decimals.
-plain_decides : (bs : List ℕ) → Decides (plain bs) ((0 < length (front bs)) × All Space (drop (length (front bs)) bs))
+plain_decides : (bs : List ℕ) → Decides (plain bs) ((0 < length (front bs)) × AllByRecursion Space (drop (length (front bs)) bs))
 plain_decides bs = Decides-and _ _ (Decides-ltb 0 (length (front bs))) (spaced_decides (drop (length (front bs)) bs))
 
-parted_decides : (p : ℕ) (bs : List ℕ) → Decides (parted p bs) ((0 < length (front bs)) × ((slice_index bs (length (front bs)) ≡ 46) × ((0 < length (behind bs)) × ((length (behind bs) ≤ p) × All Space (drop (length (front bs) + 1 + length (behind bs)) bs)))))
+parted_decides : (p : ℕ) (bs : List ℕ) → Decides (parted p bs) ((0 < length (front bs)) × ((slice_index bs (length (front bs)) ≡ 46) × ((0 < length (behind bs)) × ((length (behind bs) ≤ p) × AllByRecursion Space (drop (length (front bs) + 1 + length (behind bs)) bs)))))
 parted_decides p bs =
     Decides-and _ _ (Decides-ltb 0 (length (front bs)))
     (Decides-and _ _ (Decides-eqb (slice_index bs (length (front bs))) 46)

@@ -2,7 +2,7 @@
 use Rattle.std.specs.Prelude.{◌≡◌, ℕ, ◌^◌, Bool, true, false, cond, ◌⊎◌, List, [], ◌∷◌, length, Some, None, Decides, Option, ◌==◌, refl}
 use Rattle.std.proofs.Common.{sym, ap, subst, ◌∙◌, inl, inr, ⊎_elim, arith}
 use Rattle.std.proofs.Math.Bool.{Bool-set}
-use Rattle.std.specs.List.{AllByRecursion as All}
+use Rattle.std.specs.List.{AllByRecursion}
 use Rattle.std.proofs.lemmas.Bool.{cond-true, cond-false, cases_Bool, eqb-true, eq-eqb, false≢true}
 use Rattle.std.proofs.lemmas.Bool.Decides.{nat_tests, Decides-ltb, Decides-and}
 use Rattle.digits.specs.Bytes.{Space}
@@ -109,7 +109,7 @@ amount_law =
 
 -- a decimal, or spaces, which count 0
 abbrev OrBlank : List ℕ → ℕ → Type 0
-OrBlank bs n = Decimal 2 bs n ⊎ (All Space bs × (n ≡ 0))
+OrBlank bs n = Decimal 2 bs n ⊎ (AllByRecursion Space bs × (n ≡ 0))
 
 or_blank_exact : Exact OrBlank (λ bs. cond (spaced bs) (Some 0) (decimal_of 2 bs))
 or_blank_exact = record {

@@ -1,6 +1,6 @@
 -- The laws of the readings.
 use Rattle.std.specs.Prelude.{◌≡◌, ℕ, List, length, Some, Option}
-use Rattle.std.specs.List.{AllByRecursion as All}
+use Rattle.std.specs.List.{AllByRecursion}
 use Rattle.digits.specs.Bytes.{Space}
 use Rattle.readers.specs.Values.{pair_of, label_of, time_of, price_of, amount_of, quantity_of, integer_of, side_of, PairIs, LabelIs, TimeIs, PriceIs, AmountIs, QuantityIs, IntegerIs, SideIs}
 
@@ -12,7 +12,7 @@ pub record FieldLaw {V : Type 0} (wide : ℕ) (Is : List ℕ → V → Type 0) (
 
 -- a field that is never all spaces
 abbrev pub BlankFree : {V : Type 0} → (List ℕ → V → Type 0) → Type 0
-BlankFree {V} Is = (bs : List ℕ) (v : V) → Is bs v → All Space bs → ⊥
+BlankFree {V} Is = (bs : List ℕ) (v : V) → Is bs v → AllByRecursion Space bs → ⊥
 
 pub record ReaderLaws : Type 0 where
   pub pair : FieldLaw 7 PairIs pair_of

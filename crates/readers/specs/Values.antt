@@ -9,7 +9,7 @@ use Rattle.fields.specs.declared.values.Integer.{Integer}
 use Rattle.fields.specs.declared.values.Label.{Label}
 use Rattle.fields.specs.declared.values.Pair.{Pair}
 use Rattle.fields.specs.declared.values.TimeOfDay.{TimeOfDay}
-use Rattle.std.specs.List.{AllByRecursion as All}
+use Rattle.std.specs.List.{AllByRecursion}
 use Rattle.digits.specs.Bytes.{Space}
 use Rattle.fields.specs.Fields.{PriceField, AmountField, QuantityField, IntegerField, LabelField, PairField, TimeField}
 use Rattle.fields.specs.Forms.{labelled, paired, timed}
@@ -126,5 +126,5 @@ SideIs bs v = bs ≡ letter_of v ∷ []
 
 -- w spaces and no value, or the field of the value
 abbrev pub OptionalIs : {A : Type 0} → ℕ → (List ℕ → A → Type 0) → List ℕ → Option A → Type 0
-OptionalIs w Is bs None = (length bs ≡ w) × All Space bs
+OptionalIs w Is bs None = (length bs ≡ w) × AllByRecursion Space bs
 OptionalIs w Is bs (Some v) = Is bs v

@@ -1,6 +1,6 @@
 // Fields that may be blank.
 ghost use Rattle.std.specs.Prelude.{◌≡◌, length, Decides};
-ghost use Rattle.std.specs.List.{AllByRecursion as All};
+ghost use Rattle.std.specs.List.{AllByRecursion};
 ghost use Rattle.digits.specs.Bytes.{Space};
 ghost use Rattle.readers.specs.Values.{optional_of, OptionalIs};
 ghost use Rattle.readers.specs.Blanks.{optional_law};
@@ -9,12 +9,12 @@ use crate::field::{Field, Filled};
 
 // Whether the bytes are `width` spaces.
 fn is_blank(bytes: &[u8], width: usize) -> bool
-    ensures { Decides result ((length bytes.now ≡ width) × All Space bytes.now) }
+    ensures { Decides result ((length bytes.now ≡ width) × AllByRecursion Space bytes.now) }
 {
     bytes.len() == width && digits::spaces(bytes, 0)
 }
 
-// All spaces say that there is no value.
+// AllByRecursion spaces say that there is no value.
 impl<F: Filled> Field for Option<F> {
     ghost wide = { F.Field.wide };
 

@@ -1,7 +1,7 @@
 -- What holds of all that a snapshot lists: the offsets of its marks ascend, each order is of the pair listed last before it,
 -- and there are as many pairs as their count says.
 use Rattle.std.proofs.Common.{◌≡◌, ℕ, zero, suc, ◌+◌, ◌-◌, ◌<◌, ◌≤◌, Bool, true, false, cond, eqb, List, [], ◌∷◌, ◌++◌, length, Some, None, Ok, Err, Option, sym, refl, ap, ◌∙◌, subst, append_assoc, arith, eqb-true}
-use Rattle.std.specs.List.{AllByRecursion as All}
+use Rattle.std.specs.List.{AllByRecursion}
 use Rattle.fields.specs.declared.values.Pair.{Pair}
 use Rattle.fields.specs.declared.values.Price.{Price}
 use Rattle.fields.specs.declared.values.Integer.{Integer}
@@ -152,13 +152,13 @@ module _ {T : Type 0} where
   rising_few p (x ∷ xs) e h = let z = h.0 in let w = rising_few (suc (place_of x)) xs e h.1 in omega arith
 
   pub record Ascending (ms : List (Mark T)) : Type 0 where
-    pub below : (front back : List (Mark T)) (x : Mark T) → ms ≡ front ++ (x ∷ back) → All (λ (y : Mark T). place_of y < place_of x) front
+    pub below : (front back : List (Mark T)) (x : Mark T) → ms ≡ front ++ (x ∷ back) → AllByRecursion (λ (y : Mark T). place_of y < place_of x) front
 
   rising_at : (p e : ℕ) (front back : List (Mark T)) (x : Mark T) → Rising p (front ++ (x ∷ back)) e → p ≤ place_of x
   rising_at p e [] back x h = h.0
   rising_at p e (y ∷ front) back x h = let z = h.0 in let w = rising_at (suc (place_of y)) e front back x h.1 in omega arith
 
-  rising_below : (p e : ℕ) (front back : List (Mark T)) (x : Mark T) → Rising p (front ++ (x ∷ back)) e → All (λ (y : Mark T). place_of y < place_of x) front
+  rising_below : (p e : ℕ) (front back : List (Mark T)) (x : Mark T) → Rising p (front ++ (x ∷ back)) e → AllByRecursion (λ (y : Mark T). place_of y < place_of x) front
   rising_below p e [] back x h = tt
   rising_below p e (y ∷ front) back x h =
       let w = rising_at (suc (place_of y)) e front back x h.1 in
@@ -377,7 +377,7 @@ module _ {T : Type 0} (m : List ℕ) where
   Stands (Puts p o) = value_at m 15 (label_of 15) p ≡ Ok o.id
 
   abbrev Standing : Spanned (Mark T)
-  Standing p ms e = All Stands ms
+  Standing p ms e = AllByRecursion Stands ms
 
   standing_join : Joins Standing Standing Standing
   standing_join p q e [] ys h k = k
@@ -411,5 +411,5 @@ module _ {T : Type 0} (F : venue.Form T) (m : List ℕ) where
       (each_ok On p (Lists p c ∷ []) q ((field_inside m 7 pair_of p h).value, tt))
       (λ u. each_then On On On (standing_join m) u (side_at F m c Bid u) _ (on_side c Bid u) (λ r. on_side c Offer r)))
 
-  pub marks_stand : (ms : List (Mark T)) (e : ℕ) → snapshot_of F m ≡ Ok (ms, e) → All (Stands m) ms
+  pub marks_stand : (ms : List (Mark T)) (e : ℕ) → snapshot_of F m ≡ Ok (ms, e) → AllByRecursion (Stands m) ms
   marks_stand ms e h = let x = snapshot_parts F m ms e h in on_times (pair_at F m) on_pair x.count.value 11 ms e x.listed

@@ -1,6 +1,6 @@
 -- A check of each mark of a snapshot, in turn, gives its first repeat and its counts.
 use Rattle.std.proofs.Common.{◌≡◌, ℕ, zero, suc, ◌+◌, ◌<◌, ◌≤◌, Bool, true, false, cond, ◌&&◌, ◌||◌, ltb, List, [], ◌∷◌, ◌++◌, length, Some, None, Ok, Err, Option, Result, sym, refl, ap, ◌∙◌, subst, ap₂, append_assoc, append-nil, arith, length-append}
-use Rattle.std.specs.List.{AllByRecursion as All}
+use Rattle.std.specs.List.{AllByRecursion}
 use Rattle.std.specs.Str.{bytes_eq}
 use Rattle.std.proofs.lemmas.Bool.{lt-ltb, le-ltb}
 use Rattle.fields.specs.declared.values.Pair.{Pair}
@@ -54,18 +54,18 @@ module _ {T : Type 0} where
   rising_behind r [] back x e h = (omega arith, h.1)
   rising_behind r (y ∷ front) back x e h = rising_behind (suc (place_of y)) front back x e h.1
 
-  rising_below : (r : ℕ) (front back : List (Mark T)) (x : Mark T) (e : ℕ) → Rising r (front ++ (x ∷ back)) e → All (λ (y : Mark T). place_of y < place_of x) front
+  rising_below : (r : ℕ) (front back : List (Mark T)) (x : Mark T) (e : ℕ) → Rising r (front ++ (x ∷ back)) e → AllByRecursion (λ (y : Mark T). place_of y < place_of x) front
   rising_below r front back x e h = (rising_ascends r (front ++ (x ∷ back)) e h).below front back x refl
 
   -- a pair that is listed before p repeats one in front of p
-  listed_front : (p : ℕ) (c : Pair) (xs : List (Mark T)) → All (λ (y : Mark T). place_of y < p) xs → listed p c.bytes xs ≡ repeats xs (Lists p c)
+  listed_front : (p : ℕ) (c : Pair) (xs : List (Mark T)) → AllByRecursion (λ (y : Mark T). place_of y < p) xs → listed p c.bytes xs ≡ repeats xs (Lists p c)
   unfolding alike
   listed_front p c [] h = refl
   listed_front p c (Lists q d ∷ xs) h = ap₂ ◌||◌ (ap (λ b. b && same_pair d c) (lt-ltb q p h.0)) (listed_front p c xs h.1)
   listed_front p c (Puts q o ∷ xs) h = listed_front p c xs h.1
 
   -- among orders of one pair, an id that is put before p repeats one in front of p
-  met_front : (p : ℕ) (o : Order T) (xs : List (Mark T)) → Own o.pair xs → All (λ (y : Mark T). place_of y < p) xs → met p o.id.bytes xs ≡ repeats xs (Puts p o)
+  met_front : (p : ℕ) (o : Order T) (xs : List (Mark T)) → Own o.pair xs → AllByRecursion (λ (y : Mark T). place_of y < p) xs → met p o.id.bytes xs ≡ repeats xs (Puts p o)
   unfolding alike
   met_front p o [] w h = refl
   met_front p o (Lists q d ∷ xs) w h = absurd w

@@ -1,6 +1,6 @@
 -- What a venue fixes: the terms of its orders, and the tail, the bytes in which a message has them.
 use Rattle.std.specs.Prelude.{◌≡◌, ℕ, ◌<◌, ◌≤◌, Bool, List, length, Ok, Err, Result}
-use Rattle.std.specs.List.{AllByRecursion as All}
+use Rattle.std.specs.List.{AllByRecursion}
 use Rattle.fields.specs.Bytes.{Printable}
 
 -- A venue's form, for terms of the type T, with the law that every venue keeps.
@@ -20,5 +20,5 @@ pub record Form (T : Type 0) : Type 0 where
   pub small : width ≤ 32
   pub refused_inside : (bs : List ℕ) (k : ℕ) → length bs ≡ width → reads bs ≡ Err k → k < width
   pub written_long : (t : T) → length (writes t) ≡ width
-  pub written_printable : (t : T) → All Printable (writes t)
+  pub written_printable : (t : T) → AllByRecursion Printable (writes t)
   pub reads_back : (t : T) → reads (writes t) ≡ Ok t

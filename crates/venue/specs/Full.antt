@@ -1,7 +1,7 @@
 -- The Full ECN: the tail is the minimum quantity at 0 and the lot size at 16.
 use Rattle.std.specs.Prelude.{◌≡◌, ℕ, ◌<◌, true, false, List, ◌++◌, length, take, drop, Some, None, Ok, Err, Option, Result}
 use Rattle.std.proofs.Common.{ap, ap₂, ◌∙◌, arith, length-append, take_at, drop_at, take_all}
-use Rattle.std.specs.List.{AllByRecursion as All}
+use Rattle.std.specs.List.{AllByRecursion}
 use Rattle.std.proofs.ByRecursion.{All-append}
 use Rattle.fields.specs.Bytes.{Printable}
 use Rattle.fields.specs.Fields.{quantity_text}
@@ -48,7 +48,7 @@ both_long a b p q = omega (arith, length-append a b)
 pub full_long : (t : Limits) → length (full_writes t) ≡ 32
 full_long t = both_long _ _ (text_long t.min) (text_long t.lot)
 
-pub full_printable : (t : Limits) → All Printable (full_writes t)
+pub full_printable : (t : Limits) → AllByRecursion Printable (full_writes t)
 full_printable t =
     All-append Printable _ _
     (quantity_codec.printable _ _ (quantity_codec.back t.min))

@@ -1,5 +1,5 @@
 use Rattle.std.proofs.Common.{◌≡◌, ◌+◌, ◌-◌, ◌*◌, ◌^◌, length, get_or, drop, sym, refl, ap, ◌∙◌, subst, ⊎_elim, arith}
-use Rattle.std.specs.List.{AllByRecursion as All}
+use Rattle.std.specs.List.{AllByRecursion}
 use Rattle.std.proofs.lemmas.Bool.Decides.{not_from_Decides}
 use Rattle.digits.specs.Bytes.{Space}
 use Rattle.digits.specs.Numerals.{front}
@@ -16,7 +16,7 @@ pub returns-then-not-spaces : goal.returns-then-not-spaces
 returns-then-not-spaces c n d =
     let e : length (front c.args.s.now) ≡ c.run-end.result.0 = omega arith in
     ⊎_elim
-    (λ h. not_from_Decides _ c.spaces.ensures c.if-not-spaces.true (subst (λ i. All Space (drop i c.args.s.now)) e h.spaces))
+    (λ h. not_from_Decides _ c.spaces.ensures c.if-not-spaces.true (subst (λ i. AllByRecursion Space (drop i c.args.s.now)) e h.spaces))
     (λ h. not_from_Decides _ c.is_point.ensures c.if-not-is_point.true (omega (arith, h.inside), ap (λ i. get_or c.args.s.now i 0) (sym e) ∙ h.point))
     (decimal_shape _ _ n d)
 
@@ -28,7 +28,7 @@ returns-then-not-is_point c =
     let e : c.run-end.result.0 ≡ length (front c.args.s.now) = omega arith in
     let d = plain_decimal c.args.places c.args.s.now c.scaled.result (omega arith)
     (record {
-      spaces = subst (λ i. All Space (drop i c.args.s.now)) e (c.spaces.ensures.0 c.if-not-spaces.false);
+      spaces = subst (λ i. AllByRecursion Space (drop i c.args.s.now)) e (c.spaces.ensures.0 c.if-not-spaces.false);
       count = c.scaled.ensures ∙ ap (λ x. x * 10 ^ c.args.places) c.run-end.ensures.number;
     }) in
     (d, λ m f. one_count _ _ m _ f d)
