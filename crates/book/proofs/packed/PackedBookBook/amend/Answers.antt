@@ -20,7 +20,14 @@ invariant_of-self g c =
     let items : set rs k c.reset_row-row.result ≡ set rs k (reset_row_lem c.args.amount.count (g.T.Terms.row c.args.terms) (get_or rs k r)) =
     ap (set rs k) (c.reset_row-row.ensures ∙ ap (reset_row_lem c.args.amount.count (g.T.Terms.row c.args.terms)) c.index.ensures) in
     let h = set_holds g.T.Terms.given rs b.formed b.sorted b.distinct g.T.Terms.row g.met.T.Terms.back c.args.pair c.args.id c.args.amount c.args.terms k r found _ items in
-    (b.small, (b.fits, (b.held, (h.formed, (h.sorted, (h.distinct, tt))))))
+    record {
+      small = b.small;
+      fits = b.fits;
+      held = b.held;
+      formed = h.formed;
+      sorted = h.sorted;
+      distinct = h.distinct;
+    }
 
 pub returns : goal.returns
 returns g c =

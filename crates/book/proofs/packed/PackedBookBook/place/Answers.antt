@@ -36,7 +36,14 @@ invariant_of-self g c =
     c.insert.ensures.items ∙ ap (λ t. cond t (insert (vec_items b.rows) c.place_for-at.result c.row_of-row.result) (vec_items b.rows)) ok ∙ ap (insert (vec_items b.rows) c.place_for-at.result) c.row_of-row.ensures in
     let h = inserted_holds g.T.Terms.given (vec_items b.rows) b.formed b.sorted b.distinct g.T.Terms.row g.met.T.Terms.back o c.place_for-at.result at none (vec_items c.insert.new.self) items in
     let len : vec_len c.insert.new.self ≡ vec_len b.rows + 1 = c.insert.ensures.len ∙ ap (λ t. cond t (vec_len b.rows + 1) (vec_len b.rows)) ok in
-    (b.small, (omega (arith, l, b.rows.ok.0, c.len.ensures, c.capacity.ensures), (omega (arith, c.insert.ensures.capacity), (h.formed, (h.sorted, (h.distinct, tt))))))
+    record {
+      small = b.small;
+      fits = omega (arith, l, b.rows.ok.0, c.len.ensures, c.capacity.ensures);
+      held = omega (arith, c.insert.ensures.capacity);
+      formed = h.formed;
+      sorted = h.sorted;
+      distinct = h.distinct;
+    }
 
 pub returns : goal.returns
 returns g c =

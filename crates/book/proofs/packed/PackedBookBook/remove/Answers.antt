@@ -8,7 +8,14 @@ invariant_of-self g c =
     let b = c.args.self.now in
     let found = subst (λ z. First (row_named c.args.pair c.args.id) z (Some c.in-Some.k)) c.deref.ensures.value c.in-Some.ensures in
     let h = removed_holds g.T.Terms.given (vec_items b.rows) b.formed b.sorted b.distinct c.args.pair c.args.id c.in-Some.k found (vec_items c.take_out.new.rows) c.take_out.ensures.items in
-    (b.small, (omega arith, (omega (arith, c.take_out.ensures.capacity), (h.formed, (h.sorted, (h.distinct, tt))))))
+    record {
+      small = b.small;
+      fits = omega arith;
+      held = omega (arith, c.take_out.ensures.capacity);
+      formed = h.formed;
+      sorted = h.sorted;
+      distinct = h.distinct;
+    }
 
 pub returns : goal.returns
 returns g c =
