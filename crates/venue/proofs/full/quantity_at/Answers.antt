@@ -14,5 +14,5 @@ cut_off at bs h =
     let l = length-drop at bs in
     ap quantity_of (take_all 16 (drop at bs) (omega arith)) ∙ short (drop at bs) (omega arith)
 
-pub returns-then-tail_at : goal.returns-then-tail_at
-returns-then-tail_at c = sym (cut_off c.args.at c.args.tail.now c.if-tail_at.true)
+pub returns-then-tail-at : goal.returns-then-tail-at
+returns-then-tail-at c = sym (cut_off c.args.at c.args.tail.now c.if-tail-at.true)
