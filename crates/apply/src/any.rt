@@ -19,7 +19,7 @@ fn letter(m: &[u8]) -> char
 }
 
 fn read_any<V: Venue>(m: &[u8]) -> Result<Message<V::Terms>, MessageFault>
-    ensures { result ≡ summed (message_of form m.now) }
+    ensures { result ≡ summed (message_of V.form m.now) }
 {
     match letter(m) {
         'N' => Ok(Message::New(message::read_new::<V>(m)?)),
@@ -34,8 +34,8 @@ fn read_any<V: Venue>(m: &[u8]) -> Result<Message<V::Terms>, MessageFault>
 
 // The message that these bytes lay out at the venue, or the first fault. Nothing is applied.
 pub fn read<V: Venue>(m: &[u8]) -> Result<Message<V::Terms>, MessageFault>
-    ensures reads { result ≡ summed (message_of form m.now) }
-    ensures exact { Exactly form m.now result }
+    ensures reads { result ≡ summed (message_of V.form m.now) }
+    ensures exact { Exactly V.form m.now result }
 {
     read_any::<V>(m)
 }
@@ -45,7 +45,7 @@ pub fn apply<V: Venue, B: Book<V::Terms>>(
     book: &mut B,
     m: &[u8],
 ) -> Result<Message<V::Terms>, MessageFault>
-    ensures works { Works (worked form (B.Book.capacity book.old) (B.Book.ladder book.old) m.now) (B.Book.ladder book.old) result (B.Book.ladder book.new) }
+    ensures works { Works (worked V.form (B.Book.capacity book.old) (B.Book.ladder book.old) m.now) (B.Book.ladder book.old) result (B.Book.ladder book.new) }
     ensures kept { B.Book.capacity book.new ≡ B.Book.capacity book.old }
 {
     match letter(m) {

@@ -12,5 +12,5 @@ pub fn snapshots_hold<T: Terms>()
 
 // Bytes lay out one message at most, and it is read exactly then.
 pub fn messages_hold<V: Venue>()
-    ensures { MessageLaws form }
+    ensures { MessageLaws V.form }
 {}

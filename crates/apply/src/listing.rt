@@ -17,7 +17,7 @@ use venue::Venue;
 
 // How many pairs the snapshot lists and how many orders it puts, or its first fault.
 pub(crate) fn count_listed<V: Venue>(m: &[u8]) -> Result<Tally, MessageFault>
-    ensures { result ≡ tallied (snapshot_of form m.now) }
+    ensures { result ≡ tallied (snapshot_of V.form m.now) }
 {
     let mut tally = Tally {
         pairs: 0,
@@ -29,7 +29,7 @@ pub(crate) fn count_listed<V: Venue>(m: &[u8]) -> Result<Tally, MessageFault>
 
 // Whether the snapshot lists the pair.
 fn is_listed<V: Venue>(m: &[u8], pair: Pair) -> bool
-    ensures { Told form m.now (λ ms. result ≡ lists (pairs_listed ms) pair) }
+    ensures { Told V.form m.now (λ ms. result ≡ lists (pairs_listed ms) pair) }
 {
     let mut asked = Asked {
         pair,
@@ -42,7 +42,7 @@ fn is_listed<V: Venue>(m: &[u8], pair: Pair) -> bool
 // Whether the snapshot lists the pair, by what was asked last if that is the same.
 fn ask<V: Venue>(m: &[u8], pair: Pair, last: Option<Asked>) -> Asked
     ensures pair { result.pair ≡ pair }
-    ensures right { Told form m.now (λ ms. Right (pairs_listed ms) last → result.listed ≡ lists (pairs_listed ms) pair) }
+    ensures right { Told V.form m.now (λ ms. Right (pairs_listed ms) last → result.listed ≡ lists (pairs_listed ms) pair) }
 {
     if let Some(asked) = last {
         if same_pair(asked.pair, pair) {
@@ -65,7 +65,7 @@ fn ask_at<V: Venue, B: Book<V::Terms>>(
     rank: usize,
     last: Option<Asked>,
 ) -> Option<Asked>
-    ensures { Told form m.now (λ ms. Right (pairs_listed ms) last → Right (pairs_listed ms) result × (unlisted result ≡ stays (pairs_listed ms) (at_rank (B.Book.ladder book.now) rank))) }
+    ensures { Told V.form m.now (λ ms. Right (pairs_listed ms) last → Right (pairs_listed ms) result × (unlisted result ≡ stays (pairs_listed ms) (at_rank (B.Book.ladder book.now) rank))) }
 {
     match book.at(rank) {
         Some(order) => Some(ask::<V>(m, order.pair, last)),
@@ -84,7 +84,7 @@ fn is_unlisted(asked: Option<Asked>) -> bool
 
 // How many standing orders are of no pair listed.
 fn kept<V: Venue, B: Book<V::Terms>>(m: &[u8], book: &B) -> usize
-    ensures { Told form m.now (λ ms. result ≡ length (cleared_all (pairs_listed ms) (B.Book.ladder book.now))) }
+    ensures { Told V.form m.now (λ ms. result ≡ length (cleared_all (pairs_listed ms) (B.Book.ladder book.now))) }
 {
     let len = book.len();
     let mut n: usize = 0;
@@ -110,8 +110,8 @@ fn has_room(capacity: usize, stay: usize, orders: usize) -> bool
 
 // Clears the pairs listed, and places the orders as listed.
 fn replace<V: Venue, B: Book<V::Terms>>(book: &mut B, m: &[u8])
-    ensures ladder { Told form m.now (λ ms. Distinct ms → room_needed ms (B.Book.ladder book.old) ≤ B.Book.capacity book.old → B.Book.ladder book.new ≡ replaced ms (B.Book.ladder book.old)) }
-    ensures kept { Told form m.now (λ ms. B.Book.capacity book.new ≡ B.Book.capacity book.old) }
+    ensures ladder { Told V.form m.now (λ ms. Distinct ms → room_needed ms (B.Book.ladder book.old) ≤ B.Book.capacity book.old → B.Book.ladder book.new ≡ replaced ms (B.Book.ladder book.old)) }
+    ensures kept { Told V.form m.now (λ ms. B.Book.capacity book.new ≡ B.Book.capacity book.old) }
 {
     let _ = visit_marks::<V, B, Clearing>(m, book);
     let _ = visit_marks::<V, B, Placing>(m, book);
@@ -123,8 +123,8 @@ pub(crate) fn replace_listed<V: Venue, B: Book<V::Terms>>(
     m: &[u8],
     orders: usize,
 ) -> Result<(), MessageFault>
-    ensures applied { Told form m.now (λ ms. Distinct ms → orders ≡ length (orders_put ms) → Applies (snapshot_after (B.Book.capacity book.old) (B.Book.ladder book.old) ms) (B.Book.ladder book.old) result (B.Book.ladder book.new)) }
-    ensures kept { Told form m.now (λ ms. B.Book.capacity book.new ≡ B.Book.capacity book.old) }
+    ensures applied { Told V.form m.now (λ ms. Distinct ms → orders ≡ length (orders_put ms) → Applies (snapshot_after (B.Book.capacity book.old) (B.Book.ladder book.old) ms) (B.Book.ladder book.old) result (B.Book.ladder book.new)) }
+    ensures kept { Told V.form m.now (λ ms. B.Book.capacity book.new ≡ B.Book.capacity book.old) }
 {
     let stay = kept::<V, B>(m, book);
     if !has_room(book.capacity(), stay, orders) {

@@ -19,7 +19,7 @@ pub(crate) fn is_blank(m: &[u8]) -> bool
 
 // What a snapshot lists, or its first fault.
 pub(crate) fn read_snapshot<V: Venue>(m: &[u8]) -> Result<Message<V::Terms>, MessageFault>
-    ensures { result ≡ summed (snapshot_said form m.now) }
+    ensures { result ≡ summed (snapshot_said V.form m.now) }
 {
     if m.len() < 7 {
         return Err(MessageFault::WrongLength);
@@ -36,7 +36,7 @@ pub(crate) fn work_snapshot<V: Venue, B: Book<V::Terms>>(
     book: &mut B,
     m: &[u8],
 ) -> Result<Message<V::Terms>, MessageFault>
-    ensures works { Works (snapshot_said form m.now ▷ λ s. with_ladder form (B.Book.capacity book.old) (B.Book.ladder book.old) s (after form (B.Book.capacity book.old) (B.Book.ladder book.old) s)) (B.Book.ladder book.old) result (B.Book.ladder book.new) }
+    ensures works { Works (snapshot_said V.form m.now ▷ λ s. with_ladder V.form (B.Book.capacity book.old) (B.Book.ladder book.old) s (after V.form (B.Book.capacity book.old) (B.Book.ladder book.old) s)) (B.Book.ladder book.old) result (B.Book.ladder book.new) }
     ensures kept { B.Book.capacity book.new ≡ B.Book.capacity book.old }
 {
     if m.len() < 7 {

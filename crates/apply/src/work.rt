@@ -15,7 +15,7 @@ pub(crate) fn work_new<V: Venue, B: Book<V::Terms>>(
     book: &mut B,
     m: &[u8],
 ) -> Result<Message<V::Terms>, MessageFault>
-    ensures works { Works (new_of form m.now ▷ λ o. with_ladder form (B.Book.capacity book.old) (B.Book.ladder book.old) (new o) (after form (B.Book.capacity book.old) (B.Book.ladder book.old) (new o))) (B.Book.ladder book.old) result (B.Book.ladder book.new) }
+    ensures works { Works (new_of V.form m.now ▷ λ o. with_ladder V.form (B.Book.capacity book.old) (B.Book.ladder book.old) (new o) (after V.form (B.Book.capacity book.old) (B.Book.ladder book.old) (new o))) (B.Book.ladder book.old) result (B.Book.ladder book.new) }
     ensures kept { B.Book.capacity book.new ≡ B.Book.capacity book.old }
 {
     let order = message::read_new::<V>(m)?;
@@ -28,7 +28,7 @@ pub(crate) fn work_modify<V: Venue, B: Book<V::Terms>>(
     book: &mut B,
     m: &[u8],
 ) -> Result<Message<V::Terms>, MessageFault>
-    ensures works { Works (modify_of form m.now ▷ λ x. with_ladder form (B.Book.capacity book.old) (B.Book.ladder book.old) (modify x) (after form (B.Book.capacity book.old) (B.Book.ladder book.old) (modify x))) (B.Book.ladder book.old) result (B.Book.ladder book.new) }
+    ensures works { Works (modify_of V.form m.now ▷ λ x. with_ladder V.form (B.Book.capacity book.old) (B.Book.ladder book.old) (modify x) (after V.form (B.Book.capacity book.old) (B.Book.ladder book.old) (modify x))) (B.Book.ladder book.old) result (B.Book.ladder book.new) }
     ensures kept { B.Book.capacity book.new ≡ B.Book.capacity book.old }
 {
     let change = message::read_modify::<V>(m)?;
@@ -41,7 +41,7 @@ pub(crate) fn work_cancel<V: Venue, B: Book<V::Terms>>(
     book: &mut B,
     m: &[u8],
 ) -> Result<Message<V::Terms>, MessageFault>
-    ensures works { Works (cancel_of m.now ▷ λ x. with_ladder form (B.Book.capacity book.old) (B.Book.ladder book.old) (cancel x) (after form (B.Book.capacity book.old) (B.Book.ladder book.old) (cancel x))) (B.Book.ladder book.old) result (B.Book.ladder book.new) }
+    ensures works { Works (cancel_of m.now ▷ λ x. with_ladder V.form (B.Book.capacity book.old) (B.Book.ladder book.old) (cancel x) (after V.form (B.Book.capacity book.old) (B.Book.ladder book.old) (cancel x))) (B.Book.ladder book.old) result (B.Book.ladder book.new) }
     ensures kept { B.Book.capacity book.new ≡ B.Book.capacity book.old }
 {
     let cancel = message::read_cancel(m)?;

@@ -1,8 +1,7 @@
 -- What a chain of readings tells, field by field.
-use Rattle.std.proofs.Common.{◌≡◌, ℕ, ◌+◌, ◌≤◌, Bool, true, false, cond, eqb, List, [], ◌∷◌, ◌++◌, length, is_some, Some, None, Ok, Err, Option, Result, sym, refl, ap, ◌∙◌, subst, arith, eq-eqb, eqb-true}
+use Rattle.std.proofs.Common.{◌≡◌, ℕ, ◌+◌, ◌≤◌, Bool, true, false, cond, eqb, List, [], ◌∷◌, length, is_some, Some, None, Ok, Err, Option, Result, sym, refl, ap, subst, eqb-true}
 use borrow.Author.Tests.{eqb-false}
 use Rattle.venue.specs.Form as venue
-use Rattle.message.specs.declared.fault.MessageFault.{MessageFault}
 use Rattle.message.specs.declared.fault.MessageFault.TheVariants.{NoLetter, WrongLength, BadField, Unpriced, Miscounted, Repeated, Book}
 use Rattle.message.specs.Reading.{Reading, ◌▷◌, field, value_at, tail_at, sized}
 use Rattle.message.specs.Checks.{Check, FirstBad, Tells, of_field, of_tail, by_venue}

@@ -1,5 +1,5 @@
 -- The laws of the layouts, for every venue's form.
-use Rattle.std.proofs.Common.{◌≡◌, ◌+◌, Bool, true, false, cond, sym, subst}
+use Rattle.std.proofs.Common.{◌+◌, cond, sym, subst}
 use Rattle.venue.specs.Form as venue
 use Rattle.message.specs.Orders.{new_of, amend_of, reprice_of, modify_of, cancel_of}
 use Rattle.message.specs.Laid.{NewRow, AmendRow, RepriceRow, ModifyRow, CancelRow}

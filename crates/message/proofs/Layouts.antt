@@ -1,11 +1,11 @@
 -- A message on one order is read exactly where it is laid out, and a fault names the first check that fails.
-use Rattle.std.proofs.Common.{◌≡◌, ℕ, ◌+◌, ◌≤◌, Bool, true, false, cond, not, ◌&&◌, eqb, List, [], ◌∷◌, length, is_some, Some, None, Ok, Err, MatchBool, Option, sym, refl, ap, ◌∙◌, subst, ap₂, arith, eq-eqb}
+use Rattle.std.proofs.Common.{◌≡◌, ℕ, ◌+◌, ◌≤◌, Bool, true, false, cond, not, ◌&&◌, List, [], ◌∷◌, length, is_some, Some, None, Ok, Err, MatchBool, Option, sym, refl, ◌∙◌, subst, ap₂, arith, eq-eqb}
 use Rattle.fields.specs.declared.values.Pair.{Pair}
 use Rattle.fields.specs.declared.values.Price.{Price}
 use Rattle.fields.specs.declared.values.Amount.{Amount}
 use Rattle.book.specs.Ladder.{OrderId}
 use Rattle.book.specs.declared.order.Order.{Order}
-use Rattle.readers.specs.Values.{pair_of, label_of, price_of, amount_of, side_of, optional_of, PairIs, LabelIs, PriceIs, AmountIs, SideIs, OptionalIs}
+use Rattle.readers.specs.Values.{pair_of, label_of, price_of, amount_of, side_of, optional_of, PairIs, LabelIs, PriceIs, AmountIs, OptionalIs}
 use Rattle.readers.specs.Laws.{FieldLaw}
 use Rattle.readers.specs.Lawful.{pair_law, label_law, price_law, amount_law, side_law}
 use Rattle.readers.specs.Blanks.{optional_law, price_filled, label_filled}
@@ -14,9 +14,9 @@ use Rattle.message.specs.declared.fault.MessageFault.TheVariants.{Unpriced}
 use Rattle.message.specs.declared.messages.Modify.{Modify}
 use Rattle.message.specs.declared.messages.Cancel.{Cancel}
 use Rattle.message.specs.Reading.{Reading, ◌▷◌, field, value_at, tail_at, sized}
-use Rattle.message.specs.Orders.{pair_at, id_at, price_at, amount_at, any_price_at, any_id_at, replaced_at_lem, new_of, amend_of, end_of, reprice_of, modify_of, cancel_of}
-use Rattle.message.specs.Laid.{TailIs, NewRow, AmendRow, EndRow, RepriceRow, ModifyRow, CancelRow}
-use Rattle.message.specs.Checks.{Check, Tells, Never, LacksPrice, new_checks, amend_checks, end_checks, reprice_checks, cancel_checks, of_tail, of_any_id}
+use Rattle.message.specs.Orders.{any_id_at, replaced_at_lem, new_of, amend_of, end_of, reprice_of, modify_of, cancel_of}
+use Rattle.message.specs.Laid.{TailIs, NewRow, AmendRow, RepriceRow, ModifyRow, CancelRow}
+use Rattle.message.specs.Checks.{Tells, Never, LacksPrice, new_checks, amend_checks, end_checks, reprice_checks, cancel_checks, of_tail, of_any_id}
 use Rattle.message.specs.Laws.{Exact, One}
 use Rattle.message.proofs.Readings.{value_formed, tail_formed}
 use Rattle.message.proofs.Chains.{Outcome, outcome_field, outcome_tail, sized_told, regroup, told_row}

@@ -1,7 +1,6 @@
 -- Laws of the readings of single fields.
-use Rattle.std.proofs.Common.{◌≡◌, ℕ, ◌+◌, ◌<◌, ◌≤◌, Bool, true, false, cond, leb, List, length, drop, Some, None, Ok, Err, Option, Result, sym, refl, ap, ◌∙◌, arith, length-drop, length-take-le, le-leb, leb-true}
+use Rattle.std.proofs.Common.{◌≡◌, ℕ, ◌+◌, ◌<◌, ◌≤◌, Bool, true, false, cond, leb, List, length, drop, Some, None, Ok, Err, Option, Result, refl, ap, ◌∙◌, arith, length-drop, length-take-le, le-leb, leb-true}
 use borrow.Author.Tests.{lt-leb}
-use Rattle.message.specs.declared.fault.MessageFault.{MessageFault}
 use Rattle.message.specs.declared.fault.MessageFault.TheVariants.{BadField, Miscounted}
 use Rattle.venue.specs.Form as venue
 use Rattle.message.specs.Reading.{Reading, field, value_at, tail_at, in_form, in_tail}

@@ -1,10 +1,9 @@
 -- Which check of a message on one order fails first: the fields in layout order, each with its offset.
-use Rattle.std.specs.Prelude.{◌≡◌, ℕ, ◌+◌, Bool, true, false, cond, List, [], ◌∷◌, ◌++◌, length, is_some, Some, None, Ok, Err, Option, Result}
+use Rattle.std.specs.Prelude.{◌≡◌, ℕ, ◌+◌, Bool, true, false, cond, List, [], ◌∷◌, ◌++◌, length, is_some, None, Ok, Err, Option, Result}
 use Rattle.std.specs.List.{AllByRecursion}
 use Rattle.book.specs.Ladder.{OrderId}
 use Rattle.readers.specs.Values.{pair_of, label_of, price_of, amount_of, side_of, optional_of, PriceIs, LabelIs, OptionalIs}
 use Rattle.venue.specs.Form as venue
-use Rattle.message.specs.declared.fault.MessageFault.{MessageFault}
 use Rattle.message.specs.declared.fault.MessageFault.TheVariants.{NoLetter, WrongLength, BadField, Unpriced, Miscounted, Repeated, Book}
 use Rattle.message.specs.Reading.{Reading, field}
 use Rattle.message.specs.Orders.{replaced_at_lem}

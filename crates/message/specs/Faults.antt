@@ -1,7 +1,6 @@
 -- The numbers of a message's faults, and the packet offsets that they name.
 use Rattle.std.specs.Prelude.{ℕ, ◌+◌, ◌-◌, ◌^◌, min}
 use Rattle.book.specs.Calls as book
-use Rattle.message.specs.declared.fault.BookRefusal.{BookRefusal}
 use Rattle.message.specs.declared.fault.MessageFault.{MessageFault}
 use Rattle.message.specs.declared.fault.MessageFault.TheVariants.{NoLetter, WrongLength, BadField, Unpriced, Miscounted, Repeated, Book}
 

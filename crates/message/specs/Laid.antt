@@ -6,7 +6,6 @@ use Rattle.venue.specs.Form as venue
 use Rattle.message.specs.declared.messages.Modify.{Modify}
 use Rattle.message.specs.declared.messages.Cancel.{Cancel}
 use Rattle.message.specs.Reading.{field}
-use Rattle.message.specs.Orders.{replaced_at_lem}
 
 -- the venue's tail of these terms
 abbrev pub TailIs : {T : Type 0} → venue.Form T → List ℕ → T → Type 0

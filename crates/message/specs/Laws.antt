@@ -1,9 +1,6 @@
 -- The laws of the readers of messages on one order, for a venue's form.
 use Rattle.std.specs.Prelude.{◌≡◌, ℕ, ◌+◌, true, false, List, Ok}
-use Rattle.book.specs.declared.order.Order.{Order}
 use Rattle.venue.specs.Form as venue
-use Rattle.message.specs.declared.messages.Modify.{Modify}
-use Rattle.message.specs.declared.messages.Cancel.{Cancel}
 use Rattle.message.specs.Reading.{Reading}
 use Rattle.message.specs.Orders.{new_of, modify_of, cancel_of}
 use Rattle.message.specs.Laid.{NewRow, ModifyRow, RepriceRow, AmendRow, CancelRow}

@@ -5,5 +5,5 @@ use venue::Venue;
 
 // Bytes are read exactly where they lay out a message, and a fault names the check that fails first.
 pub fn layouts_hold<V: Venue>()
-    ensures { LayoutLaws form }
+    ensures { LayoutLaws V.form }
 {}

@@ -34,7 +34,7 @@ fn cancel_id(cancel: &[u8]) -> Result<OrderId, MessageFault>
 
 // New.
 pub fn read_new<V: Venue>(m: &[u8]) -> Result<Order<V::Terms>, MessageFault>
-    ensures { result ≡ new_of form m.now }
+    ensures { result ≡ new_of V.form m.now }
 {
     if m.len() != 50 + V::width() {
         return Err(MessageFault::WrongLength);
@@ -57,7 +57,7 @@ pub fn read_new<V: Venue>(m: &[u8]) -> Result<Order<V::Terms>, MessageFault>
 
 // Modify at a venue where it has no price.
 fn read_amend<V: Venue>(m: &[u8]) -> Result<Modify<V::Terms>, MessageFault>
-    ensures { result ≡ amend_of form m.now }
+    ensures { result ≡ amend_of V.form m.now }
 {
     if m.len() != 39 + V::width() {
         return Err(MessageFault::WrongLength);
@@ -78,7 +78,7 @@ fn read_amend<V: Venue>(m: &[u8]) -> Result<Modify<V::Terms>, MessageFault>
 
 // The tail and the replaced id of a Modify with price, in the venue's order.
 fn read_end<V: Venue>(m: &[u8]) -> Result<(V::Terms, Option<OrderId>), MessageFault>
-    ensures { result ≡ end_of form m.now }
+    ensures { result ≡ end_of V.form m.now }
 {
     if V::modify_tail_first() {
         let terms = tail::<V>(m, 49)?;
@@ -93,7 +93,7 @@ fn read_end<V: Venue>(m: &[u8]) -> Result<(V::Terms, Option<OrderId>), MessageFa
 
 // Where a Modify with price has its replaced id.
 pub fn replaced_at<V: Venue>() -> usize
-    ensures { result ≡ replaced_at_lem form }
+    ensures { result ≡ replaced_at_lem V.form }
 {
     if V::modify_tail_first() {
         AMOUNT_END + V::width()
@@ -104,7 +104,7 @@ pub fn replaced_at<V: Venue>() -> usize
 
 // Modify at a venue where it has a price.
 fn read_reprice<V: Venue>(m: &[u8]) -> Result<Modify<V::Terms>, MessageFault>
-    ensures { result ≡ reprice_of form m.now }
+    ensures { result ≡ reprice_of V.form m.now }
 {
     if m.len() != 64 + V::width() {
         return Err(MessageFault::WrongLength);
@@ -129,7 +129,7 @@ fn read_reprice<V: Venue>(m: &[u8]) -> Result<Modify<V::Terms>, MessageFault>
 
 // Modify, in the venue's form.
 pub fn read_modify<V: Venue>(m: &[u8]) -> Result<Modify<V::Terms>, MessageFault>
-    ensures { result ≡ modify_of form m.now }
+    ensures { result ≡ modify_of V.form m.now }
 {
     if V::priced() {
         read_reprice::<V>(m)

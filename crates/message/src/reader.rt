@@ -20,7 +20,7 @@ fn part(m: &[u8], at: usize, width: usize) -> Result<&[u8], MessageFault>
 
 // The value of the field at `at`.
 pub fn value<F: Field>(m: &[u8], at: usize) -> Result<F, MessageFault>
-    ensures { result ≡ value_at m.now wide reads at }
+    ensures { result ≡ value_at m.now F.wide F.reads at }
 {
     let bytes = part(m, at, F::width())?;
     match F::read(bytes) {
@@ -31,7 +31,7 @@ pub fn value<F: Field>(m: &[u8], at: usize) -> Result<F, MessageFault>
 
 // The terms in the tail at `at`.
 pub fn tail<V: Venue>(m: &[u8], at: usize) -> Result<V::Terms, MessageFault>
-    ensures { result ≡ tail_at form m.now at }
+    ensures { result ≡ tail_at V.form m.now at }
 {
     let bytes = part(m, at, V::width())?;
     match V::read(bytes) {

@@ -118,7 +118,7 @@ pub fn apply_modify<V: Venue, B: Book<V::Terms>>(
     book: &mut B,
     change: &Modify<V::Terms>,
 ) -> Result<(), MessageFault>
-    ensures applied { Applies (modify_after form (B.Book.ladder book.old) change.now) (B.Book.ladder book.old) result (B.Book.ladder book.new) }
+    ensures applied { Applies (modify_after V.form (B.Book.ladder book.old) change.now) (B.Book.ladder book.old) result (B.Book.ladder book.new) }
     ensures kept { B.Book.capacity book.new ≡ B.Book.capacity book.old }
 {
     let old = at(

@@ -28,7 +28,7 @@ pub(crate) fn target_of<T: Copy>(change: &Modify<T>) -> OrderId
 
 // The offset of the field that names the order that Modify changes.
 pub(crate) fn target_at<V: Venue>(replaced: Option<OrderId>) -> usize
-    ensures { result ≡ target_at form replaced }
+    ensures { result ≡ target_at V.form replaced }
 {
     match replaced {
         Some(_) => replaced_at::<V>(),

@@ -52,7 +52,7 @@ fn noted(first: Option<usize>, at: usize, repeated: bool) -> Option<usize>
 
 // The first repeat, once the pair at `at` is seen.
 fn pair_noted<V: Venue>(m: &[u8], first: Option<usize>, at: usize, pair: &Pair) -> Option<usize>
-    ensures { PairNoted form m.now first at pair.now.bytes result }
+    ensures { PairNoted V.form m.now first at pair.now.bytes result }
 {
     if first.is_some() {
         return first;
@@ -68,7 +68,7 @@ fn id_noted<V: Venue>(
     at: usize,
     id: &OrderId,
 ) -> Option<usize>
-    ensures { IdNoted form m.now first start at id.now.bytes result }
+    ensures { IdNoted V.form m.now first start at id.now.bytes result }
 {
     if first.is_some() {
         return first;
@@ -77,7 +77,7 @@ fn id_noted<V: Venue>(
 }
 
 fn pair_seen<V: Venue>(m: &[u8], seen: Seen, at: usize, pair: &Pair) -> Seen
-    ensures { PairSeen form m.now seen at pair.now result }
+    ensures { PairSeen V.form m.now seen at pair.now result }
 {
     Seen {
         start: grown(m, at, 7),
@@ -88,7 +88,7 @@ fn pair_seen<V: Venue>(m: &[u8], seen: Seen, at: usize, pair: &Pair) -> Seen
 }
 
 fn order_seen<V: Venue>(m: &[u8], seen: Seen, at: usize, order: &Order<V::Terms>) -> Seen
-    ensures { OrderSeen form m.now seen at order.now result }
+    ensures { OrderSeen V.form m.now seen at order.now result }
 {
     Seen {
         start: seen.start,
@@ -125,7 +125,7 @@ fn outcome(seen: Seen) -> Result<Counts, MessageFault>
 // Checks the snapshot: how many pairs it lists and how many orders it puts, or the first fault of its layout, or else its first
 // repeat.
 pub fn check<V: Venue>(m: &[u8]) -> Result<Counts, MessageFault>
-    ensures { result ≡ checked (snapshot_of form m.now) }
+    ensures { result ≡ checked (snapshot_of V.form m.now) }
 {
     let mut seen = Seen {
         start: 0,

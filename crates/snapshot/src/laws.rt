@@ -6,5 +6,5 @@ use venue::Venue;
 // Bytes are read exactly where they lay out a snapshot, a fault names the check that fails first, and a snapshot is accepted exactly
 // where it repeats nothing.
 pub fn snapshots_laid<V: Venue>()
-    ensures { SnapshotLaws form }
+    ensures { SnapshotLaws V.form }
 {}

@@ -38,7 +38,7 @@ fn same_at(m: &[u8], at: usize, bytes: &[u8]) -> bool
 
 // The offset of the id in an order.
 fn id_place<V: Venue>() -> usize
-    ensures { result ≡ id_place_lem form }
+    ensures { result ≡ id_place_lem V.form }
 {
     if V::order_tail_first() {
         16 + V::width()
@@ -49,7 +49,7 @@ fn id_place<V: Venue>() -> usize
 
 // The bytes of an order.
 fn order_size<V: Venue>() -> usize
-    ensures { result ≡ order_size_lem form }
+    ensures { result ≡ order_size_lem V.form }
 {
     31 + V::width()
 }
@@ -88,7 +88,7 @@ fn ids_met(m: &[u8], mut at: usize, mut n: usize, step: usize, upto: usize, id: 
 
 // The id in `n` levels from `at`.
 fn levels_skim<V: Venue>(m: &[u8], mut at: usize, mut n: usize, upto: usize, id: &[u8; 15]) -> Skim
-    ensures { (c : Pair) (s : Side) → Skims upto id.now (times (level_at form m.now c s) n at) result }
+    ensures { (c : Pair) (s : Side) → Skims upto id.now (times (level_at V.form m.now c s) n at) result }
 {
     let place = id_place::<V>();
     let size = order_size::<V>();
@@ -108,14 +108,14 @@ fn levels_skim<V: Venue>(m: &[u8], mut at: usize, mut n: usize, upto: usize, id:
 
 // The id in the side at `at`.
 fn side_skim<V: Venue>(m: &[u8], at: usize, upto: usize, id: &[u8; 15]) -> Skim
-    ensures { (c : Pair) (s : Side) → Skims upto id.now (side_at form m.now c s at) result }
+    ensures { (c : Pair) (s : Side) → Skims upto id.now (side_at V.form m.now c s at) result }
 {
     levels_skim::<V>(m, after(m, at, 4), count_at(m, at), upto, id)
 }
 
 // Whether the side at `at` puts the id before `upto`.
 fn side_met<V: Venue>(m: &[u8], at: usize, upto: usize, id: &[u8; 15]) -> bool
-    ensures { (c : Pair) (s : Side) → PutsId upto id.now (side_at form m.now c s at) result }
+    ensures { (c : Pair) (s : Side) → PutsId upto id.now (side_at V.form m.now c s at) result }
 {
     match side_skim::<V>(m, at, upto, id) {
         Skim::Met => true,
@@ -126,7 +126,7 @@ fn side_met<V: Venue>(m: &[u8], at: usize, upto: usize, id: &[u8; 15]) -> bool
 
 // Whether the pair whose bids begin at `from` puts the id before `upto`.
 pub(crate) fn id_met<V: Venue>(m: &[u8], from: usize, upto: usize, id: &[u8; 15]) -> bool
-    ensures { (c : Pair) → PutsId upto id.now (sides_at form m.now c from) result }
+    ensures { (c : Pair) → PutsId upto id.now (sides_at V.form m.now c from) result }
 {
     match side_skim::<V>(m, from, upto, id) {
         Skim::Met => true,
@@ -137,7 +137,7 @@ pub(crate) fn id_met<V: Venue>(m: &[u8], from: usize, upto: usize, id: &[u8; 15]
 
 // Where `n` levels from `at` end.
 fn levels_end<V: Venue>(m: &[u8], mut at: usize, mut n: usize) -> usize
-    ensures { (c : Pair) (s : Side) → Ends (times (level_at form m.now c s) n at) result }
+    ensures { (c : Pair) (s : Side) → Ends (times (level_at V.form m.now c s) n at) result }
 {
     let size = order_size::<V>();
     while n > 0 {
@@ -150,14 +150,14 @@ fn levels_end<V: Venue>(m: &[u8], mut at: usize, mut n: usize) -> usize
 
 // Where the side at `at` ends.
 fn side_end<V: Venue>(m: &[u8], at: usize) -> usize
-    ensures { (c : Pair) (s : Side) → Ends (side_at form m.now c s at) result }
+    ensures { (c : Pair) (s : Side) → Ends (side_at V.form m.now c s at) result }
 {
     levels_end::<V>(m, after(m, at, 4), count_at(m, at))
 }
 
 // Where the pair at `at` ends, with its sides.
 fn pair_end<V: Venue>(m: &[u8], at: usize) -> usize
-    ensures { Ends (pair_at form m.now at) result }
+    ensures { Ends (pair_at V.form m.now at) result }
 {
     let offers = side_end::<V>(m, after(m, at, 7));
     side_end::<V>(m, offers)
@@ -165,7 +165,7 @@ fn pair_end<V: Venue>(m: &[u8], at: usize) -> usize
 
 // Whether one of `n` pairs from `at` stands before `upto` and is this one.
 fn pairs_met<V: Venue>(m: &[u8], mut at: usize, mut n: usize, upto: usize, pair: &[u8; 7]) -> bool
-    ensures { ListsPair upto pair.now (times (pair_at form m.now) n at) result }
+    ensures { ListsPair upto pair.now (times (pair_at V.form m.now) n at) result }
 {
     while n > 0 && at < upto {
         if same_at(m, at, pair) {
@@ -179,7 +179,7 @@ fn pairs_met<V: Venue>(m: &[u8], mut at: usize, mut n: usize, upto: usize, pair:
 
 // Whether the snapshot lists the pair before `upto`.
 pub(crate) fn pair_met<V: Venue>(m: &[u8], upto: usize, pair: &[u8; 7]) -> bool
-    ensures { ListsPair upto pair.now (snapshot_of form m.now) result }
+    ensures { ListsPair upto pair.now (snapshot_of V.form m.now) result }
 {
     pairs_met::<V>(m, 11, count_at(m, 7), upto, pair)
 }

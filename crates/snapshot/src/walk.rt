@@ -15,7 +15,7 @@ use venue::Venue;
 
 // The value at `at`, and the offset after it.
 fn next<F: Field>(m: &[u8], at: usize) -> Result<(F, usize), MessageFault>
-    ensures { result ≡ field_at m.now wide reads at }
+    ensures { result ≡ field_at m.now F.wide F.reads at }
 {
     let value = message::value::<F>(m, at)?;
     Ok((value, at + F::width()))
@@ -23,7 +23,7 @@ fn next<F: Field>(m: &[u8], at: usize) -> Result<(F, usize), MessageFault>
 
 // The terms at `at`, and the offset after them.
 fn next_tail<V: Venue>(m: &[u8], at: usize) -> Result<(V::Terms, usize), MessageFault>
-    ensures { result ≡ tail_then form m.now at }
+    ensures { result ≡ tail_then V.form m.now at }
 {
     let terms = message::tail::<V>(m, at)?;
     Ok((terms, at + V::width()))
@@ -31,7 +31,7 @@ fn next_tail<V: Venue>(m: &[u8], at: usize) -> Result<(V::Terms, usize), Message
 
 // The id and the terms at `at`, in the venue's order, with the offset of the id; and the offset after them.
 fn named<V: Venue>(m: &[u8], at: usize) -> Result<((usize, OrderId, V::Terms), usize), MessageFault>
-    ensures { result ≡ named_at form m.now at }
+    ensures { result ≡ named_at V.form m.now at }
 {
     if V::order_tail_first() {
         let (terms, id_at) = next_tail::<V>(m, at)?;
@@ -52,7 +52,7 @@ fn order<V: Venue, S, K: Task<V::Terms, S>>(
     side: Side,
     price: Price,
 ) -> Result<usize, MessageFault>
-    ensures { Walked (steps m.now) (order_at form m.now pair side price at) state.old result state.new }
+    ensures { Walked (K.steps m.now) (order_at V.form m.now pair side price at) state.old result state.new }
 {
     let (amount, name_at) = next::<Amount>(m, at)?;
     let ((id_at, id, terms), end) = named::<V>(m, name_at)?;
@@ -81,7 +81,7 @@ fn orders<V: Venue, S, K: Task<V::Terms, S>>(
     side: Side,
     price: Price,
 ) -> Result<usize, MessageFault>
-    ensures { Walked (steps m.now) (times (order_at form m.now pair side price) n at) state.old result state.new }
+    ensures { Walked (K.steps m.now) (times (order_at V.form m.now pair side price) n at) state.old result state.new }
 {
     while n > 0 {
         at = order::<V, S, K>(m, state, at, pair, side, price)?;
@@ -98,7 +98,7 @@ fn level<V: Venue, S, K: Task<V::Terms, S>>(
     pair: Pair,
     side: Side,
 ) -> Result<usize, MessageFault>
-    ensures { Walked (steps m.now) (level_at form m.now pair side at) state.old result state.new }
+    ensures { Walked (K.steps m.now) (level_at V.form m.now pair side at) state.old result state.new }
 {
     let (price, count_at) = next::<Price>(m, at)?;
     let (count, orders_at) = next::<Integer<4>>(m, count_at)?;
@@ -118,7 +118,7 @@ fn levels<V: Venue, S, K: Task<V::Terms, S>>(
     pair: Pair,
     side: Side,
 ) -> Result<usize, MessageFault>
-    ensures { Walked (steps m.now) (times (level_at form m.now pair side) n at) state.old result state.new }
+    ensures { Walked (K.steps m.now) (times (level_at V.form m.now pair side) n at) state.old result state.new }
 {
     while n > 0 {
         at = level::<V, S, K>(m, state, at, pair, side)?;
@@ -135,7 +135,7 @@ fn side_of<V: Venue, S, K: Task<V::Terms, S>>(
     pair: Pair,
     side: Side,
 ) -> Result<usize, MessageFault>
-    ensures { Walked (steps m.now) (side_at form m.now pair side at) state.old result state.new }
+    ensures { Walked (K.steps m.now) (side_at V.form m.now pair side at) state.old result state.new }
 {
     let (count, levels_at) = next::<Integer<4>>(m, at)?;
     levels::<V, S, K>(m, state, levels_at, count.value(), pair, side)
@@ -147,7 +147,7 @@ fn pair_of<V: Venue, S, K: Task<V::Terms, S>>(
     state: &mut S,
     at: usize,
 ) -> Result<usize, MessageFault>
-    ensures { Walked (steps m.now) (pair_at form m.now at) state.old result state.new }
+    ensures { Walked (K.steps m.now) (pair_at V.form m.now at) state.old result state.new }
 {
     let (pair, bids_at) = next::<Pair>(m, at)?;
     let mark = Mark::Lists(at, pair);
@@ -163,7 +163,7 @@ fn pairs<V: Venue, S, K: Task<V::Terms, S>>(
     mut at: usize,
     mut n: u64,
 ) -> Result<usize, MessageFault>
-    ensures { Walked (steps m.now) (times (pair_at form m.now) n at) state.old result state.new }
+    ensures { Walked (K.steps m.now) (times (pair_at V.form m.now) n at) state.old result state.new }
 {
     while n > 0 {
         at = pair_of::<V, S, K>(m, state, at)?;
@@ -178,7 +178,7 @@ fn all_pairs<V: Venue, S, K: Task<V::Terms, S>>(
     state: &mut S,
     at: usize,
 ) -> Result<usize, MessageFault>
-    ensures { Walked (steps m.now) (pairs_at_lem form m.now at) state.old result state.new }
+    ensures { Walked (K.steps m.now) (pairs_at_lem V.form m.now at) state.old result state.new }
 {
     let (count, pairs_at) = next::<Integer<4>>(m, at)?;
     pairs::<V, S, K>(m, state, pairs_at, count.value())
@@ -189,7 +189,7 @@ pub fn visit_marks<V: Venue, S, K: Task<V::Terms, S>>(
     m: &[u8],
     state: &mut S,
 ) -> Result<usize, MessageFault>
-    ensures { Walked (steps m.now) (snapshot_of form m.now) state.old result state.new }
+    ensures { Walked (K.steps m.now) (snapshot_of V.form m.now) state.old result state.new }
 {
     let (size, at) = next::<Integer<6>>(m, 1)?;
     if size.value() != (m.len() - at) as u64 {

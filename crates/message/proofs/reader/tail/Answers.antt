@@ -1,5 +1,5 @@
-use Rattle.std.proofs.Common.{◌≡◌, ◌+◌, ◌<◌, ◌≤◌, min, length, Ok, Err, sym, ap, ◌∙◌, arith, length-drop, length-take, rules}
-use Rattle.message.specs.Reading.{field, tail_at}
+use Rattle.std.proofs.Common.{◌≡◌, ◌+◌, ◌≤◌, length, Err, rules}
+use Rattle.message.specs.Reading.{tail_at}
 use Rattle.message.proofs.Readings.{tail_short, field_long}
 use Rattle.message.proofs.reader.tail.Goals as goal
 
