@@ -1,5 +1,5 @@
 -- What the steps of a message answer.
-use Rattle.std.specs.Prelude.{◌≡◌, ℕ, true, false, not, List, Some, None, Ok, Err, Result}
+use Rattle.std.specs.Prelude.{◌≡◌, ℕ, true, false, List, Some, None, Ok, Err, Result}
 use Rattle.fields.specs.declared.values.Pair.{Pair}
 use Rattle.book.specs.declared.order.Order.{Order}
 use Rattle.book.specs.declared.ladder.BookFault.{BookFault}
