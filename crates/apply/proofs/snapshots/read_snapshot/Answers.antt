@@ -13,7 +13,7 @@ returns-then-is_blank g c = sym (ap summed (blank_so g.V.Venue.form c.args.m.now
 
 pub returns-in_err-counts : goal.returns-in_err-counts
 returns-in_err-counts g c =
-    let p = err_from_is_err_and c.from-residual.result c.from-residual.ensures.1 in
+    let p = err_from_is_err_and c.from_residual.result c.from_residual.ensures.1 in
     let e = fault_so g.V.Venue.form c.args.m.now _ c.if-m-lt7.false (sym c.if-is_blank.ensures) (sym c.check.ensures ∙ c.in_err-counts.was) in
     p.1 ∙ ap Err p.2 ∙ sym (ap summed e)
 

@@ -19,7 +19,7 @@ returns-then-is_blank g c =
 pub returns-in_err-counts : goal.returns-in_err-counts
 returns-in_err-counts g c =
     let F = g.V.Venue.form in
-    let p = err_from_is_err_and c.from-residual.result c.from-residual.ensures.1 in
+    let p = err_from_is_err_and c.from_residual.result c.from_residual.ensures.1 in
     let e = fault_so F c.args.m.now _ c.if-m-lt7.false (sym c.if-is_blank.ensures) (sym c.check.ensures ∙ c.in_err-counts.was) in
     record { works = works_err _ _ _ (snapshot_said F c.args.m.now) _ _ e (p.1 ∙ ap Err p.2) refl; kept = refl }
 
@@ -28,7 +28,7 @@ returns-in_err-replace_listed g c =
     let F = g.V.Venue.form in
     let m = c.args.m.now in
     let b = c.args.book.now in
-    let p = err_from_is_err_and c.from-residual-in_err-replace_listed.result c.from-residual-in_err-replace_listed.ensures.1 in
+    let p = err_from_is_err_and c.from_residual-in_err-replace_listed.result c.from_residual-in_err-replace_listed.ensures.1 in
     let so = listed_so F m c.in_ok-counts.counts c.if-m-lt7.false (sym c.if-is_blank.ensures) (sym c.check.ensures ∙ c.in_ok-counts.was) in
     let a = c.in_err-replace_listed.ensures.applied so.marks so.end so.read (none_distinct so.marks so.none) so.orders in
     record {

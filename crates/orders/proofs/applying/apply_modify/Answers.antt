@@ -11,9 +11,9 @@ returns-in_err-old g c =
     let l = g.B.Book.ladder c.args.book.now in
     let x = c.args.change.now in
     let e = c.in_err-old.field-0.0 in
-    let p = err_from_is_err_and {Q = λ y. y ≡ Book e} c.from-residual.result c.from-residual.ensures.1 in
+    let p = err_from_is_err_and {Q = λ y. y ≡ Book e} c.from_residual.result c.from_residual.ensures.1 in
     record {
-      applied = exit _ l l e c.from-residual.result p.0 p.1 p.2 (not_found g.V.Venue.form l x c.target_of.result c.target_at.result c.target_of.ensures c.target_at.ensures c.standing.result c.standing.ensures e c.in_err-old.ensures, refl);
+      applied = exit _ l l e c.from_residual.result p.0 p.1 p.2 (not_found g.V.Venue.form l x c.target_of.result c.target_at.result c.target_of.ensures c.target_at.ensures c.standing.result c.standing.ensures e c.in_err-old.ensures, refl);
       kept = refl;
     }
 
@@ -22,11 +22,11 @@ returns-in_err-at g c =
     let l = g.B.Book.ladder c.args.book.now in
     let x = c.args.change.now in
     let e = c.in_err-at.field-0.0 in
-    let p = err_from_is_err_and {Q = λ y. y ≡ Book e} c.from-residual-in_err-at.result c.from-residual-in_err-at.ensures.1 in
+    let p = err_from_is_err_and {Q = λ y. y ≡ Book e} c.from_residual-in_err-at.result c.from_residual-in_err-at.ensures.1 in
     let old = c.in_ok-old.old in
     let stood = found l x c.target_of.result c.target_at.result c.target_of.ensures c.standing.result c.standing.ensures old c.in_ok-old.ensures in
     record {
-      applied = exit _ l l e c.from-residual-in_err-at.result p.0 p.1 p.2 (not_free g.V.Venue.form l x old stood c.free.result c.free.ensures e c.in_err-at.ensures, refl);
+      applied = exit _ l l e c.from_residual-in_err-at.result p.0 p.1 p.2 (not_free g.V.Venue.form l x old stood c.free.result c.free.ensures e c.in_err-at.ensures, refl);
       kept = refl;
     }
 

@@ -10,9 +10,9 @@ returns-in_err-placing g c =
     let l = g.B.Book.ladder b in
     let l' = g.B.Book.ladder c.place.new.self in
     let e = c.in_err-placing.field-0.0 in
-    let p = err_from_is_err_and {Q = λ y. y ≡ Book e} c.from-residual.result c.from-residual.ensures.1 in
+    let p = err_from_is_err_and {Q = λ y. y ≡ Book e} c.from_residual.result c.from_residual.ensures.1 in
     record {
-      applied = exit _ l l' e c.from-residual.result p.0 p.1 p.2 (new_refused (g.B.Book.capacity b) l c.args.order.now l' c.place.result c.place.ensures.place e c.in_err-placing.ensures);
+      applied = exit _ l l' e c.from_residual.result p.0 p.1 p.2 (new_refused (g.B.Book.capacity b) l c.args.order.now l' c.place.result c.place.ensures.place e c.in_err-placing.ensures);
       kept = c.place.ensures.kept;
     }
 

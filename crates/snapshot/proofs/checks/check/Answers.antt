@@ -6,7 +6,7 @@ use Rattle.snapshot.proofs.checks.check.Goals as goal
 
 pub returns-in_err-visit_marks : goal.returns-in_err-visit_marks
 returns-in_err-visit_marks g c =
-    let p = err_from_is_err_and c.from-residual.result c.from-residual.ensures.1 in
+    let p = err_from_is_err_and c.from_residual.result c.from_residual.ensures.1 in
     p.1 ∙ ap Err p.2 ∙ sym (checked_fault (snapshot_of g.V.Venue.form c.args.m.now) _ c.in_err-visit_marks.ensures.answer)
 
 pub returns : goal.returns

@@ -7,12 +7,12 @@ use Rattle.snapshot.proofs.walk.level.Goals as goal
 
 pub returns-in_err-price : goal.returns-in_err-price
 returns-in_err-price g c =
-    let p = err_from_is_err_and c.from-residual.result c.from-residual.ensures.1 in
+    let p = err_from_is_err_and c.from_residual.result c.from_residual.ensures.1 in
     faulted (g.K.Task.steps c.args.m.now) _ p.0 (level_unpriced g.V.Venue.form c.args.m.now c.args.pair c.args.side c.args.at (sym c.next.ensures ∙ c.in_err-price.was)) p.1 p.2
 
 pub returns-in_err-count : goal.returns-in_err-count
 returns-in_err-count g c =
-    let p = err_from_is_err_and c.from-residual-in_err-count.result c.from-residual-in_err-count.ensures.1 in
+    let p = err_from_is_err_and c.from_residual-in_err-count.result c.from_residual-in_err-count.ensures.1 in
     faulted (g.K.Task.steps c.args.m.now) _ p.0 (level_uncounted g.V.Venue.form c.args.m.now c.args.pair c.args.side c.args.at (sym c.next.ensures ∙ c.in_ok-price.was) (sym c.next-2.ensures ∙ c.in_err-count.was)) p.1 p.2
 
 pub returns-then-n-eq0 : goal.returns-then-n-eq0

@@ -6,7 +6,7 @@ use Rattle.snapshot.proofs.walk.next.Goals as goal
 
 pub returns-in_err-value : goal.returns-in_err-value
 returns-in_err-value g c =
-    let p = err_from_is_err_and c.from-residual.result c.from-residual.ensures.1 in
+    let p = err_from_is_err_and c.from_residual.result c.from_residual.ensures.1 in
     p.1 ∙ ap Err p.2 ∙ sym (field_fault c.args.m.now g.F.Field.wide g.F.Field.reads c.args.at (sym c.value.ensures ∙ c.in_err-value.was))
 
 pub overflow_add-result : goal.overflow_add-result

@@ -6,7 +6,7 @@ use Rattle.snapshot.proofs.walk.next_tail.Goals as goal
 
 pub returns-in_err-terms : goal.returns-in_err-terms
 returns-in_err-terms g c =
-    let p = err_from_is_err_and c.from-residual.result c.from-residual.ensures.1 in
+    let p = err_from_is_err_and c.from_residual.result c.from_residual.ensures.1 in
     p.1 ∙ ap Err p.2 ∙ sym (tail_fault g.V.Venue.form c.args.m.now c.args.at (sym c.tail.ensures ∙ c.in_err-terms.was))
 
 pub overflow_add-result : goal.overflow_add-result

@@ -9,12 +9,12 @@ use Rattle.snapshot.proofs.walk.pair_of.Goals as goal
 
 pub returns-in_err-pair : goal.returns-in_err-pair
 returns-in_err-pair g c =
-    let p = err_from_is_err_and c.from-residual.result c.from-residual.ensures.1 in
+    let p = err_from_is_err_and c.from_residual.result c.from_residual.ensures.1 in
     faulted (g.K.Task.steps c.args.m.now) _ p.0 (pair_fault g.V.Venue.form c.args.m.now c.args.at (sym c.next.ensures ∙ c.in_err-pair.was)) p.1 p.2
 
 pub returns-in_err-offers_at : goal.returns-in_err-offers_at
 returns-in_err-offers_at g c =
-    let p = err_from_is_err_and c.from-residual-in_err-offers_at.result c.from-residual-in_err-offers_at.ensures.1 in
+    let p = err_from_is_err_and c.from_residual-in_err-offers_at.result c.from_residual-in_err-offers_at.ensures.1 in
     let v = c.in_ok-pair.pair in
     moved (g.K.Task.steps c.args.m.now) (pair_read g.V.Venue.form c.args.m.now c.args.at (sym c.next.ensures ∙ c.in_ok-pair.was))
     (answered (g.K.Task.steps c.args.m.now) (p.1 ∙ ap Err p.2)

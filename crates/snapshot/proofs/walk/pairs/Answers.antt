@@ -7,7 +7,7 @@ use Rattle.snapshot.proofs.walk.pairs.Goals as goal
 pub returns-in_err-at : goal.returns-in_err-at
 returns-in_err-at g c =
     let f = pair_at g.V.Venue.form c.args.m.now in
-    let p = err_from_is_err_and c.from-residual.result c.from-residual.ensures.1 in
+    let p = err_from_is_err_and c.from_residual.result c.from_residual.ensures.1 in
     answered (g.K.Task.steps c.args.m.now) (p.1 ∙ ap Err p.2) (c.loop-n.invariant _ _ (times_stop (g.K.Task.steps c.args.m.now) f c.loop-n.n c.loop-n.at c.loop-n.state c.pair_of.new.state _ _ c.loop-n-test.true c.in_err-at.ensures))
 
 pub loop-n-preserved : goal.loop-n-preserved

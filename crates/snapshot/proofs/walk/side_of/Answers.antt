@@ -7,7 +7,7 @@ use Rattle.snapshot.proofs.walk.side_of.Goals as goal
 
 pub returns-in_err-count : goal.returns-in_err-count
 returns-in_err-count g c =
-    let p = err_from_is_err_and c.from-residual.result c.from-residual.ensures.1 in
+    let p = err_from_is_err_and c.from_residual.result c.from_residual.ensures.1 in
     faulted (g.K.Task.steps c.args.m.now) _ p.0 (side_fault g.V.Venue.form c.args.m.now c.args.pair c.args.side c.args.at (sym c.next.ensures ∙ c.in_err-count.was)) p.1 p.2
 
 pub returns : goal.returns

@@ -6,7 +6,7 @@ use Rattle.snapshot.proofs.walk.visit_marks.Goals as goal
 
 pub returns-in_err-size : goal.returns-in_err-size
 returns-in_err-size g c =
-    let p = err_from_is_err_and c.from-residual.result c.from-residual.ensures.1 in
+    let p = err_from_is_err_and c.from_residual.result c.from_residual.ensures.1 in
     faulted (g.K.Task.steps c.args.m.now) _ p.0 (size_fault g.V.Venue.form c.args.m.now (sym c.next.ensures ∙ c.in_err-size.was)) p.1 p.2
 
 pub overflow_sub-m : goal.overflow_sub-m
@@ -20,7 +20,7 @@ returns-then-value-m g c =
 
 pub returns-in_err-end : goal.returns-in_err-end
 returns-in_err-end g c =
-    let p = err_from_is_err_and c.from-residual-in_err-end.result c.from-residual-in_err-end.ensures.1 in
+    let p = err_from_is_err_and c.from_residual-in_err-end.result c.from_residual-in_err-end.ensures.1 in
     faulted (g.K.Task.steps c.args.m.now) _ p.0 (snapshot_stop g.V.Venue.form c.args.m.now (sym c.next.ensures ∙ c.in_ok-size.was) (ap (λ n. eqb n (length c.args.m.now - c.in_ok-size.at)) (sym c.value.ensures) ∙ eq-eqb _ _ c.if-value-m.false) (sym c.in_err-end.ensures.answer)) p.1 p.2
 
 pub returns-then-end-m : goal.returns-then-end-m
