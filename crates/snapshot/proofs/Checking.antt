@@ -1,5 +1,5 @@
 -- A check of each mark of a snapshot, in turn, gives its first repeat and its counts.
-use Rattle.std.proofs.Common.{◌≡◌, ℕ, zero, suc, ◌+◌, ◌<◌, ◌≤◌, Bool, true, false, cond, ◌&&◌, ◌||◌, ltb, List, [], ◌∷◌, ◌++◌, length, Some, None, Ok, Err, Option, Result, sym, refl, ap, ◌∙◌, subst, ap₂, append_assoc, append-nil, arith, length-append}
+use Rattle.std.proofs.Common.{◌≡◌, ℕ, zero, suc, ◌+◌, ◌<◌, ◌≤◌, Bool, true, false, cond, ◌&&◌, ◌||◌, List, [], ◌∷◌, ◌++◌, length, Some, None, Ok, Err, Option, sym, refl, ap, ◌∙◌, subst, ap₂, append_assoc, append-nil, arith, length-append}
 use Rattle.std.specs.List.{AllByRecursion}
 use Rattle.std.specs.Str.{bytes_eq}
 use Rattle.std.proofs.lemmas.Bool.{lt-ltb, le-ltb}
@@ -13,16 +13,15 @@ use Rattle.venue.specs.Form as venue
 use Rattle.message.specs.declared.fault.MessageFault.{MessageFault}
 use Rattle.snapshot.specs.declared.mark.Mark.{Mark}
 use Rattle.snapshot.specs.declared.mark.Mark.TheVariants.{Lists, Puts}
-use Rattle.snapshot.specs.declared.checks.Counts.{Counts}
 use Rattle.snapshot.specs.declared.checks.Seen.{Seen}
-use Rattle.snapshot.specs.Scanning.{Scan, ◌▸◌, field_at, times}
+use Rattle.snapshot.specs.Scanning.{Scan, ◌▸◌, field_at}
 use Rattle.snapshot.specs.Snapshot.{side_at, pair_at, snapshot_of}
 use Rattle.snapshot.specs.Repeats.{place_of, alike, repeats, first_repeat}
 use Rattle.snapshot.specs.Listing.{pairs_listed, orders_put}
 use Rattle.snapshot.specs.Skims.{among, lists_pair, puts_id, met, listed, sides_at}
 use Rattle.snapshot.specs.Walked.{Runs, Walked, ends}
 use Rattle.snapshot.specs.Checked.{told, checked, onward, PairSeen, OrderSeen, MarkSeen}
-use Rattle.snapshot.proofs.Bounds.{Spanned, Each, each_ok, each_err, each_field, each_then, each_times, Parts, snapshot_parts, nowhere, Rising, rising_side, rising_join, rising_ascends, marks_rise, marks_ascend, few_marks, Own, own_join, Under, own_under, under_join, Its, its_join, its_side}
+use Rattle.snapshot.proofs.Bounds.{Spanned, Each, each_ok, each_err, each_field, each_then, each_times, Parts, snapshot_parts, nowhere, Rising, rising_side, rising_join, rising_ascends, marks_rise, few_marks, Own, own_join, Under, own_under, under_join, Its, its_join, its_side}
 use Rattle.snapshot.proofs.Repeating.{or_left, or_right, none_distinct}
 use Rattle.snapshot.proofs.Walks.{no, FieldScanned, field_inside}
 

@@ -11,7 +11,7 @@ use Rattle.snapshot.specs.declared.checks.Counts.{Counts}
 use Rattle.snapshot.specs.Scanning.{Scan}
 use Rattle.snapshot.specs.Snapshot.{snapshot_of}
 use Rattle.snapshot.specs.Laid.{CountedLaid}
-use Rattle.snapshot.specs.Repeats.{first_repeat, Distinct, RepeatAt}
+use Rattle.snapshot.specs.Repeats.{first_repeat}
 use Rattle.snapshot.specs.Listing.{pairs_listed, orders_put}
 use Rattle.snapshot.specs.Checked.{told, checked}
 use Rattle.snapshot.specs.Laws.{Accepted, Refused, by_layout, by_repeat, SnapshotLaws}

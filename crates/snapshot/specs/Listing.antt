@@ -1,5 +1,5 @@
 -- What a snapshot does to a ladder.
-use Rattle.std.specs.Prelude.{ℕ, ◌+◌, Bool, false, ◌||◌, List, [], ◌∷◌, length, Ok, Err, Result}
+use Rattle.std.specs.Prelude.{ℕ, ◌+◌, Bool, false, ◌||◌, List, [], ◌∷◌, length}
 use Rattle.fields.specs.declared.values.Pair.{Pair}
 use Rattle.book.specs.Ladder.{same_pair, cleared, placed_all}
 use Rattle.book.specs.declared.order.Order.{Order}

@@ -1,5 +1,5 @@
 -- The part of an order that names it and has its terms.
-use Rattle.std.specs.Prelude.{ℕ, cond, List, Ok, Err, Result}
+use Rattle.std.specs.Prelude.{ℕ, cond, List, Ok}
 use Rattle.book.specs.Ladder.{OrderId}
 use Rattle.readers.specs.Values.{label_of}
 use Rattle.venue.specs.Form as venue

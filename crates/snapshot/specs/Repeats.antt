@@ -1,8 +1,7 @@
 -- Repeats: a pair that a snapshot lists twice, or an id twice in a pair.
 use Rattle.std.specs.Prelude.{◌≡◌, ℕ, Bool, true, false, cond, ◌&&◌, ◌||◌, List, [], ◌∷◌, ◌++◌, Some, None, Option}
 use Rattle.std.specs.Str.{bytes_eq}
-use Rattle.book.specs.Ladder.{same_pair, OrderId}
-use Rattle.book.specs.declared.order.Order.{Order}
+use Rattle.book.specs.Ladder.{same_pair}
 use Rattle.snapshot.specs.declared.mark.Mark.{Mark}
 use Rattle.snapshot.specs.declared.mark.Mark.TheVariants.{Lists, Puts}
 

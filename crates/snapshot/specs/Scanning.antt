@@ -1,5 +1,5 @@
 -- Reading a snapshot field by field, each from where the last one ended. Offsets are counted in the message.
-use Rattle.std.specs.Prelude.{ℕ, zero, suc, ◌+◌, List, [], ◌++◌, Ok, Err, Option, Result}
+use Rattle.std.specs.Prelude.{ℕ, zero, suc, ◌+◌, List, [], ◌++◌, Ok, Err, Option}
 use Rattle.message.specs.Reading.{Reading, ◌▷◌, value_at, tail_at}
 use Rattle.venue.specs.Form as venue
 

@@ -1,4 +1,4 @@
-use Rattle.std.proofs.Common.{◌≡◌, ◌-◌, ◌^◌, ◌≤◌, sym, ◌∙◌, arith, rules}
+use Rattle.std.proofs.Common.{◌-◌, ◌^◌, ◌≤◌, sym, ◌∙◌, arith, rules}
 use Rattle.snapshot.proofs.Skims.{compared, strided_here, strided_next, strided_none, strided_past}
 use Rattle.snapshot.proofs.skim.ids_met.Goals as goal
 

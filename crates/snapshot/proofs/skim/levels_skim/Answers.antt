@@ -1,4 +1,4 @@
-use Rattle.std.proofs.Common.{◌≡◌, sym, ◌∙◌, arith}
+use Rattle.std.proofs.Common.{sym, arith}
 use Rattle.snapshot.specs.declared.skim.Skim.TheVariants.{Met, Past, Next}
 use Rattle.snapshot.proofs.Skims.{levels_done, levels_past, levels_met, levels_next}
 use Rattle.snapshot.proofs.skim.levels_skim.Goals as goal
