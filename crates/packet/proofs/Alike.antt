@@ -1,5 +1,5 @@
 -- Letters and packets told apart.
-use Rattle.std.proofs.Common.{◌≡◌, ℕ, Bool, true, false, cond, eqb, ◌⊎◌, List, sym, refl, ap, ◌∙◌, subst, inl, inr}
+use Rattle.std.proofs.Common.{◌≡◌, ℕ, cond, eqb, ◌⊎◌, sym, refl, ap, ◌∙◌, subst, inl, inr}
 use Rattle.fields.specs.declared.values.Integer.{Integer}
 use Rattle.fields.specs.declared.values.TimeOfDay.{TimeOfDay}
 use Rattle.packet.specs.Letters.{Letter, accepted, rejected, sequenced, heartbeat, explained, directory, code}

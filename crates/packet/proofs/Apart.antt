@@ -1,15 +1,13 @@
 -- What a letter's checks exclude.
-use Rattle.std.proofs.Common.{◌≡◌, ℕ, ◌+◌, ◌*◌, ◌<◌, ◌≤◌, ◌⊎◌, List, length, sym, refl, ap, ◌∙◌, subst, inl, inr, ⊎_elim, arith}
+use Rattle.std.proofs.Common.{◌≡◌, ℕ, ◌+◌, ◌*◌, ◌<◌, List, sym, ap, ◌∙◌, ⊎_elim, arith}
 use Rattle.std.proofs.lemmas.Bool.{cases_lt}
-use Rattle.fields.specs.Fields.{IntegerField}
 use Rattle.fields.specs.Forms.{Paired}
-use Rattle.fields.proofs.Codecs.{integer_codec, time_codec}
-use Rattle.packet.specs.Letters.{Letter, accepted, rejected, sequenced, heartbeat, explained, directory, code}
-use Rattle.packet.specs.Layouts.{size, field, letter_of, Row}
+use Rattle.fields.proofs.Codecs.{integer_codec}
+use Rattle.packet.specs.Letters.{Letter, accepted, rejected, sequenced, heartbeat, explained, directory}
+use Rattle.packet.specs.Layouts.{field, letter_of, Row}
 use Rattle.packet.specs.Faults.{Says, Misfits, Malformed}
 use Rattle.packet.specs.declared.packets.Packet.{Packet}
 use Rattle.packet.specs.declared.packets.Packet.TheVariants.{LoginAccepted, LoginRejected, EndOfSession, Sequenced, Heartbeat, ErrorNotification, Directory}
-use Rattle.packet.proofs.Alike.{Shape}
 
 -- the first number at which P fails is one
 pub first_one : (P : ℕ → Type 0) (j k : ℕ) → (P j → ⊥) → ((i : ℕ) → i < j → P i) → (P k → ⊥) → ((i : ℕ) → i < k → P i) → j ≡ k

@@ -1,9 +1,8 @@
 -- The laws of the verdict: one packet or one fault, never both.
-use Rattle.std.proofs.Common.{◌≡◌, ℕ, ◌+◌, ◌<◌, ◌≤◌, ◌⊎◌, List, length, get_or, Ok, Err, Result, sym, refl, ap, ◌∙◌, subst, inl, inr, ⊎_elim, arith}
+use Rattle.std.proofs.Common.{◌≡◌, ℕ, List, get_or, Ok, Err, Result, sym, refl, ap, ◌∙◌, subst, ⊎_elim, arith}
 use Rattle.fields.specs.Bytes.{Printable}
 use Rattle.fields.proofs.Codecs.{integer_codec, time_codec}
-use Rattle.packet.specs.Letters.{Letter, code}
-use Rattle.packet.specs.Layouts.{size, field, letter_of, Row, LaidOut}
+use Rattle.packet.specs.Layouts.{field, letter_of, Row, LaidOut}
 use Rattle.packet.specs.Faults.{Unlike, Faulty, Misfits, Malformed}
 use Rattle.packet.specs.Verdict.{Headed, Matches, Reads, Exact, FormLaws}
 use Rattle.packet.specs.declared.packets.Packet.{Packet}

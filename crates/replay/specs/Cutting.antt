@@ -1,5 +1,5 @@
 -- How a stream is cut into packets: each ends with its first LF.
-use Rattle.std.specs.Prelude.{◌≡◌, ℕ, ◌+◌, ◌-◌, ◌<◌, ◌≤◌, Bool, true, false, cond, List, [], ◌∷◌, ◌++◌, length, take, Some, None, Ok, Err, Option, Result, MatchResult, ◌≢◌, nat_le, slice_index, slice_index_or}
+use Rattle.std.specs.Prelude.{◌≡◌, ℕ, ◌+◌, ◌-◌, ◌<◌, cond, List, [], ◌++◌, length, take, Some, None, Option, ◌≢◌, nat_le, slice_index, slice_index_or}
 use Rattle.replay.specs.Kept.{kept}
 use Rattle.replay.specs.declared.cutter.Cutter.{Cutter}
 use Rattle.replay.specs.declared.cutter.Cut.{Cut}

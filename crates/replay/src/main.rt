@@ -89,7 +89,7 @@ fn replay<R: Read, W: Write>(input: &mut R, out: &mut W) -> anyhow::Result<()> {
 
 fn replay_file<W: Write>(rt: &HostRuntime, path: &str, out: &mut W) -> anyhow::Result<()> {
     if path.starts_with('-') {
-        return Err(USAGE.into());
+        return Err(anyhow!(USAGE));
     }
     match File::open(rt, path) {
         Ok(mut input) => replay(&mut input, out),
@@ -102,7 +102,7 @@ fn run(rt: &HostRuntime) -> anyhow::Result<()> {
     let _program = args.next();
     let file = args.next();
     if args.next().is_some() {
-        return Err(USAGE.into());
+        return Err(anyhow!(USAGE));
     }
     let mut out = BufWriter::new(rt.alloc(), rt.stdout())?;
     match file {

@@ -1,4 +1,4 @@
-use Rattle.std.proofs.Common.{◌≡◌, ◌-◌, true, leb, Some, sym, ap, arith, rules, le-leb}
+use Rattle.std.proofs.Common.{◌≡◌, ◌-◌, true, leb, Some, ap, arith, le-leb}
 use native.Mathlib.Nat.{sub-zero}
 use Rattle.std.proofs.lemmas.List.{take-take}
 use Rattle.replay.proofs.cutter.Cutter.packet.Goals as goal

@@ -1,4 +1,4 @@
-use Rattle.std.proofs.Common.{◌≡◌, ◌+◌, length, take, sym, ap, ◌∙◌, arith, rules}
+use Rattle.std.proofs.Common.{◌≡◌, ◌+◌, length, take, ap, ◌∙◌, arith, rules}
 use Rattle.replay.proofs.Fills.{fill_room, fill_full, length_room}
 use Rattle.replay.proofs.held.Held.fill.Goals as goal
 use Rattle.replay.proofs.held.Held.fill.Goals.{then-at-lt-LONGEST, else-at-lt-LONGEST}
@@ -23,10 +23,11 @@ invariant_of-self c =
     let at = c.args.self.now.count in
     let xs = c.args.self.now.bytes in
     let ps = c.args.piece.now in
-    let long = c.args.self.now.long in (
-      elim c.if-at-lt-LONGEST.branch [
-        | then-at-lt-LONGEST w ↦ ap (λ h. length h.1.0) w.self-is ∙ length_room 49152 at xs ps long w.if-at-lt-LONGEST.true w.min-n.result w.copy_from_slice.new.self w.min-n.ensures (search rules)
-        | else-at-lt-LONGEST w ↦ ap (λ h. length h.1.0) w.self-is ∙ long
-      ],
-      tt,
-    )
+    let long = c.args.self.now.long in
+    record {
+      long =
+          elim c.if-at-lt-LONGEST.branch [
+            | then-at-lt-LONGEST w ↦ ap (λ h. length h.1.0) w.self-is ∙ length_room 49152 at xs ps long w.if-at-lt-LONGEST.true w.min-n.result w.copy_from_slice.new.self w.min-n.ensures (search rules)
+            | else-at-lt-LONGEST w ↦ ap (λ h. length h.1.0) w.self-is ∙ long
+          ];
+    }
