@@ -6,9 +6,9 @@ use Rattle.quotes.proofs.repricing.reprice.Goals as goal
 
 pub returns-in_err-remove : goal.returns-in_err-remove
 returns-in_err-remove g c =
-    let e = err_from_is_err_and c.from-residual.result c.from-residual.ensures.1 in
+    let e = err_from_is_err_and c.from_residual.result c.from_residual.ensures.1 in
     record {
-      reprice = not_removed (g.B.Book.ladder c.args.book.now) c.args.pair c.args.id c.args.price c.from-residual.result e.0 c.in_err-remove.field-0.0 (g.B.Book.ladder c.remove.new.self) e.1 e.2 c.in_err-remove.ensures.remove;
+      reprice = not_removed (g.B.Book.ladder c.args.book.now) c.args.pair c.args.id c.args.price c.from_residual.result e.0 c.in_err-remove.field-0.0 (g.B.Book.ladder c.remove.new.self) e.1 e.2 c.in_err-remove.ensures.remove;
       kept = c.remove.ensures.kept;
     }
 
