@@ -46,6 +46,9 @@ module _ {R : Type 0} where
   orders_length given [] f = refl
   orders_length given (r ∷ rs) f = ap suc (orders_length given rs (rest_formed r rs f))
 
+  pub orders_fit : {T : Type 0} (given : R → T) (rs : List (Row R)) (f : all_formed rs ≡ true) (n slots : ℕ) → n ≡ length rs → n ≤ slots → length (orders given rs f) ≤ slots
+  orders_fit given rs f n slots e h = omega (arith, orders_length given rs f)
+
   -- the order and the ids do not look at the terms
   plain_ahead : {T : Type 0} (given : R → T) (r : Row R) (F : Formed r) (qs : List (Row R)) (h : all_formed qs ≡ true) → list_all (λ y. ahead (order_of_lem given r F) y) (orders given qs h) ≡ list_all (λ y. ahead (order_of_lem (λ t. t) r F) y) (orders (λ t. t) qs h)
   unfolding ahead

@@ -2,8 +2,7 @@
 ghost use Rattle.std.specs.Prelude.{◌≡◌, ◌≤◌, true, vec_len, vec_capacity, nat_le};
 ghost use Rattle.book.specs.Ladder.{in_order, apart};
 ghost use Rattle.book.specs.Rows.{all_formed, orders};
-ghost use Rattle.book.specs.Packing.{ladder_sorted, ladder_distinct, orders_length};
-ghost use Rattle.std.proofs.Common.{arith, rules};
+ghost use Rattle.book.specs.Packing.{ladder_sorted, ladder_distinct, orders_fit};
 
 use crate::ladder::{Book, BookFault, MadeBook};
 use crate::order::{Order, Side, Terms};
@@ -42,9 +41,9 @@ impl<T: Terms> Book<T> for PackedBook<T> {
 
     ghost distinct = { λ b. ladder_distinct T.Terms.given b.rows.items b.formed b.sorted b.distinct };
 
-    ghost fits = { λ b. let l = orders_length T.Terms.given b.rows.items b.formed in omega (arith, b.rows.ok.0) };
+    ghost fits = { λ b. orders_fit T.Terms.given b.rows.items b.formed (vec_len b.rows) b.slots b.rows.ok.0 b.fits };
 
-    ghost small = { first_of (Prim.search rules, Prim.grind (arith, Self.row.coded.inj)) };
+    ghost small = { λ b. b.small };
 
     fn place(&mut self, order: &Order<T>) -> Result<(), BookFault> {
         if finder::first(
