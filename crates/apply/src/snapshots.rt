@@ -14,7 +14,7 @@ use venue::Venue;
 pub(crate) fn is_blank(m: &[u8]) -> bool
     ensures { result ≡ is_blank_lem m.now }
 {
-    m == b"S     0"
+    m == b"S     0".as_slice()
 }
 
 // What a snapshot lists, or its first fault.

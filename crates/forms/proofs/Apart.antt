@@ -3,24 +3,25 @@ use Rattle.std.proofs.Common.{◌≡◌, ℕ, List, Ok, Err, sym, refl, ap, ◌�
 use Rattle.packet.specs.Letters.{Letter, code}
 use Rattle.packet.specs.Layouts.{letter_of}
 use Rattle.packet.specs.Faults.{Misfits, Malformed, Unlike}
-use Rattle.packet.specs.Verdict.{Headed, Matches, Reads}
+use Rattle.packet.specs.Verdict.{Matches, Reads}
 use Rattle.packet.specs.declared.packets.Packet.{Packet}
 use Rattle.packet.specs.declared.packets.FormFault.{FormFault}
 use Rattle.packet.specs.declared.packets.FormFault.TheVariants.{TooLong, Unprintable, NoLetter, WrongLength, BadField}
 use Rattle.packet.proofs.Alike.{same_letter, shape_as}
 use Rattle.packet.proofs.Apart.{row_fits, row_formed, misfits_formed, malformed_one}
 use Rattle.packet.proofs.Forms.{same_row, form_laws}
+use Rattle.forms.specs.Laws.{HeadTold}
 use Rattle.forms.specs.Form.{Form}
 
 -- Heads.
-letter_or_fault : (bs : List ℕ) (c : ℕ) (f : FormFault) → Headed bs (Ok c) → Headed bs (Err f) → ⊥
+letter_or_fault : (bs : List ℕ) (c : ℕ) (f : FormFault) → HeadTold bs (Ok c) → HeadTold bs (Err f) → ⊥
 letter_or_fault bs c TooLong a b = omega (arith, a.0, b.0)
 letter_or_fault bs c (Unprintable at) a b = b.0.2 (a.1 at b.0.1)
 letter_or_fault bs c NoLetter a b = b.0.2 a.3.0 (sym a.2 ∙ a.3.1)
 letter_or_fault bs c WrongLength a b = omega (arith, b.1)
 letter_or_fault bs c (BadField at) a b = omega (arith, b.1)
 
-pub one_head : (bs : List ℕ) (r s : Form ℕ) → Headed bs r → Headed bs s → r ≡ s
+pub one_head : (bs : List ℕ) (r s : Form ℕ) → HeadTold bs r → HeadTold bs s → r ≡ s
 one_head bs (Ok c) (Ok d) a b = ap Ok (a.2 ∙ sym b.2)
 one_head bs (Ok c) (Err f) a b = absurd (letter_or_fault bs c f a b)
 one_head bs (Err f) (Ok c) a b = absurd (letter_or_fault bs c f b a)

@@ -14,31 +14,31 @@ use Rattle.readers.specs.Lawful.{time_law, integer_law}
 use Rattle.packet.specs.Letters.{Letter, accepted, rejected, sequenced, heartbeat, explained, directory, code}
 use Rattle.packet.specs.Layouts.{size, field}
 use Rattle.packet.specs.Faults.{NotInForm}
-use Rattle.packet.specs.Verdict.{Headed, Matches, Reads}
+use Rattle.packet.specs.Verdict.{Matches, Reads}
 use Rattle.packet.specs.declared.packets.Packet.{Packet}
 use Rattle.packet.specs.declared.packets.Packet.TheVariants.{Directory}
 use Rattle.packet.specs.declared.packets.FormFault.TheVariants.{Unprintable, NoLetter, BadField}
 use Rattle.packet.proofs.Forms.{exact_from_reads, reads_from_matches}
 use Rattle.forms.specs.Form.{Form, ◌▷◌, letter_for, head_of, directory_of, row_of, layout_of, form_of}
-use Rattle.forms.specs.Laws.{VerdictLaws}
+use Rattle.forms.specs.Laws.{HeadTold, VerdictLaws}
 use Rattle.forms.proofs.Parts.{either_way, unless_first, letter_some, letter_none, unread}
 use Rattle.forms.proofs.Apart.{one_head, one_match, one_reading}
 
 -- Heads.
-pub head_so : (bs : List ℕ) → Headed bs (head_of bs)
+pub head_so : (bs : List ℕ) → HeadTold bs (head_of bs)
 unfolding head_of
 head_so bs =
-    cond_both (ltb 49152 (size bs)) _ _ (Headed bs)
+    cond_both (ltb 49152 (size bs)) _ _ (HeadTold bs)
     (λ t. (ltb-true 49152 (size bs) t, omega arith))
     (λ f. let fits = ltb-false 49152 (size bs) f in
-    unless_first (λ i. between 32 126 (get_or bs i 0)) (λ i. Printable (get_or bs i 0)) (length bs) Unprintable _ (Headed bs)
+    unless_first (λ i. between 32 126 (get_or bs i 0)) (λ i. Printable (get_or bs i 0)) (length bs) Unprintable _ (HeadTold bs)
     (λ i. decides_between 32 126 (get_or bs i 0))
-    (λ all. either_way (letter_for (get_or bs 0 0)) NoLetter _ (Headed bs)
+    (λ all. either_way (letter_for (get_or bs 0 0)) NoLetter _ (HeadTold bs)
     (λ none. ((fits, all, letter_none (get_or bs 0 0) none), omega arith))
     (λ l some. let e = letter_some (get_or bs 0 0) l some in (fits, all, sym e, (l, refl))))
     (λ k l bad before. ((fits, l, bad, before), omega arith)))
 
-pub head_is : (bs : List ℕ) (r : Form ℕ) → Headed bs r → r ≡ head_of bs
+pub head_is : (bs : List ℕ) (r : Form ℕ) → HeadTold bs r → r ≡ head_of bs
 head_is bs r h = one_head bs r (head_of bs) h (head_so bs)
 
 -- Layouts.
@@ -98,7 +98,7 @@ module _ (c : ℕ) (bs : List ℕ) where
   layout_is r m = one_match c bs r (layout_of c bs) m layout_so
 
 -- The whole.
-both_so : (bs : List ℕ) (r : Form ℕ) → Headed bs r → Reads bs (r ▷ λ c. layout_of c bs)
+both_so : (bs : List ℕ) (r : Form ℕ) → HeadTold bs r → Reads bs (r ▷ λ c. layout_of c bs)
 both_so bs (Ok c) h = reads_from_matches bs c (layout_of c bs) h (layout_so c bs)
 both_so bs (Err f) h = h.0
 
