@@ -1,5 +1,5 @@
 -- What a checked snapshot says, and what is worked of it.
-use Rattle.std.proofs.Common.{◌≡◌, ℕ, ◌<◌, ◌≤◌, Bool, true, false, cond, List, [], length, Some, None, Ok, Err, Option, Result, sym, refl, ap, ◌∙◌, subst, arith}
+use Rattle.std.proofs.Common.{◌≡◌, ℕ, ◌<◌, ◌≤◌, true, false, List, [], length, Some, None, Ok, Err, Option, Result, sym, refl, ap, ◌∙◌, subst, arith}
 use Rattle.std.proofs.lemmas.Bool.{lt-ltb, le-ltb}
 use Rattle.book.specs.declared.order.Order.{Order}
 use Rattle.venue.specs.Form as venue
@@ -16,7 +16,7 @@ use Rattle.snapshot.specs.Checked.{told, checked}
 use Rattle.orders.specs.Applied.{Applies}
 use Rattle.apply.specs.declared.messages.Message.{Message}
 use Rattle.apply.specs.declared.messages.Message.TheVariants.{Snapshot}
-use Rattle.apply.specs.Said.{Said, listing, blank, is_blank_lem, listed, unrepeated, snapshot_said, summary}
+use Rattle.apply.specs.Said.{Said, listing, blank, is_blank_lem, listed, unrepeated, snapshot_said}
 use Rattle.apply.specs.Meaning.{after, with_ladder, snapshot_after, Works}
 
 no : {X A : Type 0} {v : A} {y : MessageFault} → ◌≡◌ {A = Result A MessageFault} (Ok v) (Err y) → X

@@ -1,10 +1,9 @@
 -- Messages are read exactly where they are laid out.
-use Rattle.std.proofs.Common.{◌≡◌, ℕ, ◌<◌, ◌≤◌, Bool, true, false, cond, eqb, ltb, ◌⊎◌, List, [], ◌∷◌, length, get_or, Some, None, Ok, Err, codes, Option, Result, sym, refl, ap, ◌∙◌, subst, inl, inr, arith, length-append, ltb-true, eq-eqb, ne_eqb, eqb-true}
+use Rattle.std.proofs.Common.{◌≡◌, ℕ, ◌≤◌, Bool, true, false, cond, eqb, ltb, ◌⊎◌, List, [], length, get_or, Some, None, Ok, Err, codes, Option, sym, refl, ap, ◌∙◌, subst, inl, inr, arith, length-append, ltb-true, ne_eqb, eqb-true}
 use borrow.Author.Tests.{eqb-false}
 use Rattle.std.proofs.lemmas.Bool.{ltb-false, le-ltb, true≢false}
 use Rattle.std.specs.Str.{bytes_eq}
 use Rattle.book.specs.Orderly.{bytes_same, same_bytes}
-use Rattle.book.specs.declared.order.Order.{Order}
 use Rattle.readers.proofs.Together.{reader_laws}
 use Rattle.readers.specs.Lawful.{integer_law}
 use Rattle.venue.specs.Form as venue
@@ -12,8 +11,6 @@ use Rattle.message.specs.declared.fault.MessageFault.{MessageFault}
 use Rattle.message.specs.declared.fault.MessageFault.TheVariants.{NoLetter, WrongLength, Repeated}
 use Rattle.message.specs.Reading.{Reading, ◌▷◌}
 use Rattle.message.specs.Orders.{new_of, modify_of, cancel_of}
-use Rattle.message.specs.Laid.{NewRow, ModifyRow, CancelRow}
-use Rattle.message.specs.Laws.{LayoutLaws}
 use Rattle.message.proofs.Lawful.{layout_laws}
 use Rattle.snapshot.specs.declared.mark.Mark.{Mark}
 use Rattle.snapshot.specs.Scanning.{Scan}

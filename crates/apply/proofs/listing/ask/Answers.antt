@@ -6,7 +6,7 @@ use Rattle.apply.proofs.listing.ask.Goals as goal
 pub returns-then-same_pair : goal.returns-then-same_pair
 returns-then-same_pair g c = record {
   pair = refl;
-  right = λ ms e h r. right_same (pairs_listed ms) c.args.last c.in-Some.asked c.args.pair c.in-Some.is (sym c.same_pair_self.ensures ∙ c.if-same_pair.true) r;
+  right = λ ms e h r. right_same (pairs_listed ms) c.args.last c.in-Some.asked c.args.pair c.in-Some.is (sym c.same_pair.ensures ∙ c.if-same_pair.true) r;
 }
 
 pub returns : goal.returns

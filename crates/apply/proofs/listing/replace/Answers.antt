@@ -1,5 +1,5 @@
-use Rattle.std.proofs.Common.{◌≡◌, ◌≤◌, sym, ◌∙◌, subst}
-use Rattle.snapshot.specs.Listing.{pairs_listed, orders_put, cleared_all, room_needed}
+use Rattle.std.proofs.Common.{◌≤◌, sym, ◌∙◌, subst}
+use Rattle.snapshot.specs.Listing.{pairs_listed, cleared_all, room_needed}
 use Rattle.snapshot.proofs.Repeating.{apart_put}
 use Rattle.apply.proofs.Keeping.{clear_runs, place_runs, place_runs_capacity, new_put}
 use Rattle.apply.proofs.Wholes.{read_listed}

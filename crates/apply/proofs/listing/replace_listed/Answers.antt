@@ -1,4 +1,4 @@
-use Rattle.std.proofs.Common.{◌≡◌, ◌+◌, leb, Ok, sym, refl, ap, ◌∙◌}
+use Rattle.std.proofs.Common.{◌+◌, leb, Ok, sym, refl, ap, ◌∙◌}
 use Rattle.std.proofs.lemmas.Bool.{leb-true}
 use Rattle.book.specs.declared.ladder.BookFault.TheVariants.{Full}
 use Rattle.orders.specs.Applied.{refusal}

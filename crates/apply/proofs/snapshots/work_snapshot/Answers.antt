@@ -1,8 +1,7 @@
-use Rattle.std.proofs.Common.{◌≡◌, Ok, Err, sym, refl, ap, ◌∙◌}
+use Rattle.std.proofs.Common.{Err, sym, refl, ap, ◌∙◌}
 use Rattle.std.proofs.lemmas.Result.{err_from_is_err_and}
 use Rattle.snapshot.proofs.Repeating.{none_distinct}
 use Rattle.apply.specs.Said.{snapshot_said, listing, blank}
-use Rattle.apply.specs.Meaning.{after, with_ladder}
 use Rattle.apply.proofs.Counted.{short_so, blank_so, fault_so, listed_so, works_err, works_ok, worked_ok, worked_err}
 use Rattle.apply.proofs.snapshots.work_snapshot.Goals as goal
 

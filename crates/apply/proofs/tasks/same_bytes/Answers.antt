@@ -1,7 +1,8 @@
-use Rattle.std.proofs.Common.{rules}
-use Rattle.std.proofs.lemmas.Slice.Eq.{slice_eq-Decides, bytes_eq-Decides}
+use Rattle.std.proofs.lemmas.Slice.Eq.{bytes_eq-Decides}
+use Rattle.std.proofs.lemmas.Bool.Decides.{same_from_decides, Decides-at}
+use Rattle.std.specs.Cmp.Lexicographic.{bytes_decides}
 use Rattle.apply.proofs.tasks.same_bytes.Goals as goal
-use Rattle.std.proofs.lemmas.Bool.Decides.{Decides-eqb}
 
 pub returns : goal.returns
-returns c = let h = slice_eq-Decides Decides-eqb _ _ _ c.eq.ensures in search (rules, bytes_eq-Decides)
+returns c =
+    same_from_decides _ _ (Decides-at _ _ c.eq.ensures (bytes_decides c.args.a.now c.args.b.now)) (bytes_eq-Decides c.args.a.now c.args.b.now)
