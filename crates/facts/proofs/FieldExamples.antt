@@ -1,8 +1,7 @@
 -- The examples of fields.
-use Rattle.std.proofs.Common.{◌≡◌, ℕ, List, [], codes, refl, inl, inr, ⊎_elim, arith, lit<, lit≤}
+use Rattle.std.proofs.Common.{[], codes, refl, inl, inr, ⊎_elim, arith, lit<, lit≤}
 use Rattle.std.specs.Fmt.{digits}
-use Rattle.digits.specs.Numerals.{Decimal}
-use Rattle.fields.specs.Ranges.{priced, between}
+use Rattle.fields.specs.Ranges.{priced}
 use Rattle.facts.specs.FieldSamples.{FieldSamples}
 use Rattle.digits.specs.Written.{padded}
 use Rattle.digits.proofs.Fronts.{spaces_replicate}

@@ -1,17 +1,17 @@
 -- What is written is the tidy decimal.
-use Rattle.std.proofs.Common.{◌≡◌, ℕ, zero, suc, ◌+◌, ◌-◌, ◌*◌, ◌/◌, ◌%◌, ◌^◌, ◌<◌, ◌≤◌, true, false, cond, eqb, ◌⊎◌, List, [], ◌∷◌, ◌++◌, length, get_or, take, drop, replicate, decimal, sym, refl, ap, ◌∙◌, subst, inl, inr, ⊎_elim, mul-le-mul_right, mod-lt, mod-eq_of_lt, mul_assoc, mul_comm, div-lt_iff_lt-mul, add-mul, pow-suc, div-add-mod', zero-mul, div-le_self, arith, pow-add}
+use Rattle.std.proofs.Common.{◌≡◌, ℕ, zero, suc, ◌+◌, ◌-◌, ◌*◌, ◌/◌, ◌%◌, ◌^◌, ◌<◌, ◌≤◌, eqb, List, [], ◌∷◌, ◌++◌, length, replicate, decimal, sym, refl, ap, ◌∙◌, ⊎_elim, mul-le-mul_right, mod-lt, mod-eq_of_lt, mul_assoc, mul_comm, add-mul, pow-suc, div-add-mod', zero-mul, div-le_self, arith, pow-add}
 use native.Mathlib.Nat.{mul-add-div_right, mul-add-mod_self_right, div-eq_of_lt}
 use Rattle.std.specs.List.{AllByRecursion}
-use Rattle.std.proofs.lemmas.Bool.{cond_both, cond-false, ne_eqb, eqb-true, eqb-false, cases_lt}
+use Rattle.std.proofs.lemmas.Bool.{cond_both, cond-false, ne_eqb, eqb-false, cases_lt}
 use Rattle.std.proofs.lemmas.List.{length-append, append_assoc}
 use Rattle.std.proofs.lemmas.Fmt.{decimal_digit, first_decimal, decimal-digits_value}
 use Rattle.std.proofs.lemmas.Str.Parse.{digits_value_short}
 use Rattle.digits.specs.Bytes.{Digit, Space}
-use Rattle.digits.specs.Numerals.{read_on, pointed, Decimal}
+use Rattle.digits.specs.Numerals.{read_on, pointed}
 use Rattle.digits.specs.Written.{decimals, written, padded}
 use Rattle.facts.specs.Tidy.{Unled, Trimmed, Tidy, TidyLaws}
 use Rattle.digits.proofs.Shapes.{read_on-append}
-use Rattle.digits.proofs.Writes.{pow10_pos, decimals_step, decimals_some, decimals_none, places_pos}
+use Rattle.digits.proofs.Writes.{pow10_pos, decimals_some, decimals_none, places_pos}
 use Rattle.digits.proofs.Counts.{own, written_reads}
 
 unled_decimal : (q : ℕ) → q < 2 ^ 64 → Unled (decimal q)

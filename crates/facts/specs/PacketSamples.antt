@@ -1,10 +1,10 @@
 -- Examples of packets, as facts about the definitions. A packet is given by its bytes before the LF.
-use Rattle.std.specs.Prelude.{◌≡◌, ℕ, List, [], ◌∷◌, ◌++◌, replicate, codes}
+use Rattle.std.specs.Prelude.{[], codes}
 use Rattle.packet.specs.Layouts.{LaidOut}
 use Rattle.packet.specs.Faults.{Faulty}
 use Rattle.packet.specs.declared.packets.Packet.{Packet}
-use Rattle.packet.specs.declared.packets.Packet.TheVariants.{EndOfSession, Heartbeat, LoginAccepted}
-use Rattle.packet.specs.declared.packets.FormFault.TheVariants.{TooLong, Unprintable, NoLetter, WrongLength, BadField}
+use Rattle.packet.specs.declared.packets.Packet.TheVariants.{EndOfSession, Heartbeat}
+use Rattle.packet.specs.declared.packets.FormFault.TheVariants.{NoLetter, WrongLength, BadField}
 
 pub record PacketSamples : Type 0 where
   -- a login has nine spaces before its digit; with eight its length is wrong
