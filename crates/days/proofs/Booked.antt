@@ -1,9 +1,8 @@
 -- Days over books are days.
-use Rattle.std.proofs.Common.{◌≡◌, ℕ, ◌≤◌, List, [], ◌∷◌, ◌++◌, sym, refl, ap, ◌∙◌, subst}
+use Rattle.std.proofs.Common.{ℕ, ◌≤◌, List, [], ◌∷◌, ◌++◌, sym, subst}
 use Rattle.book.specs.declared.order.Order.{Order}
 use Rattle.days.specs.declared.events.Report.{Report}
-use Rattle.days.specs.declared.state.State.TheVariants.{Open}
-use Rattle.days.specs.Model.{Rules, point_of, reports_of}
+use Rattle.days.specs.Model.{Rules}
 use Rattle.days.specs.Day as day
 use Rattle.days.specs.Day.{Day, Session, fresh, Answer, Took, Wrote, wrote}
 use Rattle.days.specs.Theorem.{EveryDay}

@@ -1,5 +1,5 @@
 -- Days over the values of a kind of book, and over those of two kinds.
-use Rattle.std.specs.Prelude.{◌≡◌, ℕ, ◌+◌, ◌≤◌, List, [], ◌∷◌, ◌++◌, length, drop}
+use Rattle.std.specs.Prelude.{◌≡◌, ℕ, ◌+◌, List, [], ◌∷◌, ◌++◌, length, drop}
 use Rattle.book.specs.declared.order.Order.{Order}
 use Rattle.days.specs.declared.state.State.TheVariants.{Open}
 use Rattle.days.specs.declared.events.Report.{Report}
