@@ -2,12 +2,12 @@
 """Brings the repository's own definitions and lemmas to today's spelling, once, after the kit's port.py.
 
 usage: python3 tools/respell.py            at the top of the repository
-       python3 tools/respell.py --all      only what it does of `All`
        python3 tools/respell.py --list     prints each name with its new one, and names that fall together; writes nothing
 
-Types, records and facts are in upper camel case; functions, lemmas, fields and constructors are in snake case. A dash stays
-where it joins two names of functions, or a fact to a word about it. Names of src/ stay. What port.py imports as `All` under
-another word's name is written with the library's own name, AllByRecursion.
+Types, records and facts are in upper camel case, with no dash; functions, lemmas, fields and constructors are in snake case. A
+dash stays in a lemma where it joins two names of FUNCTIONS. Names of src/ stay. Where the rule would give a definition the name
+of a function or of another definition in its scope, BY_HAND has its name. What port.py imports as `All` is written with the
+library's own name, AllByRecursion. Words of comments that are such names are turned too, but for All.
 """
 
 import os
@@ -20,30 +20,30 @@ placed without amended cleared cut""".split())
 SPLIT = re.compile(r"([\s(){}\[\];,.:|]+)")
 WORDS = re.compile(r"^(\s*)((?:(?:abbrev|unfoldable|pub|data|record)\s+)*)([^\s:(){},;=.]+)((?:\s+[({][^:]*:.*?)?)\s*:(?:\s+(.*))?$")
 NOT_NAMES = {"use", "let", "in", "λ", "module", "|", "--"}
-# where the rule alone would make two names one: with a function of src/, or with another definition
+# where the rule alone would make two names one: of a definition and a function of src/ that meet, or of two definitions
 BY_HAND = {
-    "isBlank": "is_blank_lem",
-    "order-of": "order_of_lem",
-    "row-of": "row_of_lem",
-    "reset-row": "reset_row_lem",
-    "sameSide": "same_side_lem",
-    "eventOf": "event_of_lem",
+    "isBlank": "is_blank_message",
+    "order-of": "whole_order",
+    "row-of": "order_row",
+    "reset-row": "changed_row",
+    "sameSide": "sides_agree",
+    "eventOf": "packet_event",
     "put-point": "put_point_lem",
-    "replacedAt": "replaced_at_lem",
-    "sameId": "same_id_lem",
-    "newAt": "new_at_lem",
-    "active-order": "active_order_lem",
-    "idPlace": "id_place_lem",
-    "orderSize": "order_size_lem",
-    "countAt": "count_at_lem",
-    "quantityAt": "quantity_at_lem",
+    "replacedAt": "replaced_offset",
+    "sameId": "ids_agree",
+    "newAt": "new_offset",
+    "active-order": "order_of_active",
+    "idPlace": "id_offset",
+    "orderSize": "order_width",
+    "countAt": "count_read",
+    "quantityAt": "quantity_from",
     "quantity-given": "quantity_given_back",
     "maker-given": "maker_given_back",
     "same-pair": "same_pair_self",
     "first-repeat": "first_repeat_is",
     "price-text": "written_price",
     "pairs-met": "pairs_met_lem",
-    "pairsAt": "pairs_at_lem",
+    "pairsAt": "pairs_from",
 }
 
 
@@ -152,12 +152,31 @@ def turned(text, table, crates):
     return "".join(parts)
 
 
+def in_code(text, old, new):
+    """The text with a word turned where it stands in code, and not in a comment."""
+    lines = []
+    for line in text.split("\n"):
+        code = re.split(r"(?<!\S)(?:--|//)", line, maxsplit=1)[0]
+        parts = SPLIT.split(code)
+        parts[::2] = [new if w == old else w for w in parts[::2]]
+        lines.append("".join(parts) + line[len(code):])
+    return "\n".join(lines)
+
+
 def own_all(text):
     if "AllByRecursion as All" not in text:
         return text
-    parts = SPLIT.split(text.replace("AllByRecursion as All", "AllByRecursion"))
-    parts[::2] = ["AllByRecursion" if w == "All" else w for w in parts[::2]]
-    return "".join(parts)
+    return in_code(text.replace("AllByRecursion as All", "AllByRecursion"), "All", "AllByRecursion")
+
+
+def of_pair(path, text):
+    """In the book port.py gives the test that a row is of a pair the name of a function of src/, `row_of`."""
+    if os.sep + "book" + os.sep not in path or "RowTests" not in text and "RowTests" not in path:
+        return text
+    if path.endswith(".antt"):
+        return in_code(text, "row_of", "row_of_pair")
+    clauses = re.compile(r"\b(ghost|ensures|requires)\b")
+    return "\n".join(in_code(it, "row_of", "row_of_pair") if clauses.search(it) else it for it in text.split("\n"))
 
 
 def main(argv):
@@ -175,11 +194,9 @@ def main(argv):
                 print("STANDS:", new, olds, names[new], names[olds[0]])
         return 0
     crates = own_crates(root)
-    if "--all" in argv:
-        table = {}
     for path in texts(root):
         text = read(path)
-        new = own_all(turned(text, table, crates))
+        new = of_pair(path, own_all(turned(text, table, crates)))
         if new != text:
             with open(path, "w", encoding="utf-8") as f:
                 f.write(new)

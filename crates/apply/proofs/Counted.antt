@@ -16,7 +16,7 @@ use Rattle.snapshot.specs.Checked.{told, checked}
 use Rattle.orders.specs.Applied.{Applies}
 use Rattle.apply.specs.declared.messages.Message.{Message}
 use Rattle.apply.specs.declared.messages.Message.TheVariants.{Snapshot}
-use Rattle.apply.specs.Said.{Said, listing, blank, is_blank_lem, listed, unrepeated, snapshot_said}
+use Rattle.apply.specs.Said.{Said, listing, blank, is_blank_message, listed, unrepeated, snapshot_said}
 use Rattle.apply.specs.Meaning.{after, with_ladder, snapshot_after, Works}
 
 no : {X A : Type 0} {v : A} {y : MessageFault} → ◌≡◌ {A = Result A MessageFault} (Ok v) (Err y) → X
@@ -36,15 +36,15 @@ module _ {T : Type 0} (F : venue.Form T) (m : List ℕ) where
   unfolding snapshot_said
   short_so h = rw (lt-ltb (length m) 7 h)
 
-  pub blank_so : 7 ≤ length m → is_blank_lem m ≡ true → snapshot_said F m ≡ Ok blank
+  pub blank_so : 7 ≤ length m → is_blank_message m ≡ true → snapshot_said F m ≡ Ok blank
   unfolding snapshot_said
   blank_so h b = rw (le-ltb (length m) 7 h, b)
 
-  counted_so : 7 ≤ length m → is_blank_lem m ≡ false → snapshot_said F m ≡ listed F m (snapshot_of F m)
+  counted_so : 7 ≤ length m → is_blank_message m ≡ false → snapshot_said F m ≡ listed F m (snapshot_of F m)
   unfolding snapshot_said
   counted_so h b = rw (le-ltb (length m) 7 h, b)
 
-  pub fault_so : (f : MessageFault) → 7 ≤ length m → is_blank_lem m ≡ false → checked (snapshot_of F m) ≡ Err f → snapshot_said F m ≡ Err f
+  pub fault_so : (f : MessageFault) → 7 ≤ length m → is_blank_message m ≡ false → checked (snapshot_of F m) ≡ Err f → snapshot_said F m ≡ Err f
   unfolding checked
   fault_so f h b e = counted_so h b ∙ by (snapshot_of F m) e
     where
@@ -56,7 +56,7 @@ module _ {T : Type 0} (F : venue.Form T) (m : List ℕ) where
           go (Some p) e = let same : Repeated p ≡ f = cc in ap Err same
           go None e = no e
 
-  pub listed_so : (n : Counts) → 7 ≤ length m → is_blank_lem m ≡ false → checked (snapshot_of F m) ≡ Ok n → ListedSo n
+  pub listed_so : (n : Counts) → 7 ≤ length m → is_blank_message m ≡ false → checked (snapshot_of F m) ≡ Ok n → ListedSo n
   unfolding checked
   listed_so n h b e = by (snapshot_of F m) refl e
     where

@@ -21,7 +21,7 @@ use Rattle.snapshot.specs.Repeats.{first_repeat, Distinct, RepeatAt}
 use Rattle.snapshot.proofs.Snapshots.{counted_sound, counted_complete, counted_stopped}
 use Rattle.snapshot.proofs.Repeating.{none_distinct, distinct_none, some_repeat}
 use Rattle.apply.specs.declared.messages.Message.{Message}
-use Rattle.apply.specs.Said.{summary, summed, Said, new, modify, cancel, listing, blank, trade, volume, LaidOut, Blank, is_blank_lem, unrepeated, listed, snapshot_said, message_of}
+use Rattle.apply.specs.Said.{summary, summed, Said, new, modify, cancel, listing, blank, trade, volume, LaidOut, Blank, is_blank_message, unrepeated, listed, snapshot_said, message_of}
 use Rattle.apply.specs.Reads.{Exactly, Refused, SnapshotRefused, Lettered, MessageLaws}
 
 never : {X A : Type 0} {v : A} {y : MessageFault} → ◌≡◌ {A = Reading A} (Ok v) (Err y) → X
@@ -133,18 +133,18 @@ module _ {T : Type 0} (F : venue.Form T) (m : List ℕ) where
   -- what a snapshot says: its length, blank or counted
   snapshot_sound : (s : Said T) → get_or m 0 0 ≡ 83 → snapshot_said F m ≡ Ok s → LaidOut F m s
   unfolding snapshot_said
-  snapshot_sound s c h = by (ltb (length m) 7) (is_blank_lem m) refl h
+  snapshot_sound s c h = by (ltb (length m) 7) (is_blank_message m) refl h
     where
-      by : (a b : Bool) → is_blank_lem m ≡ b → ◌≡◌ {A = Reading (Said T)} (cond a (Err WrongLength) (cond b (Ok blank) (listed F m (snapshot_of F m)))) (Ok s) → LaidOut F m s
+      by : (a b : Bool) → is_blank_message m ≡ b → ◌≡◌ {A = Reading (Said T)} (cond a (Err WrongLength) (cond b (Ok blank) (listed F m (snapshot_of F m)))) (Ok s) → LaidOut F m s
       by true b e h = never (sym h)
       by false true e h = let same : blank ≡ s = cc in subst (LaidOut F m) same (bytes_same m (codes "S     0") e)
       by false false e h = let k = counted (snapshot_of F m) s refl h in subst (LaidOut F m) (sym k.1) (c, k.2, k.3)
 
   snapshot_refused : (f : MessageFault) → snapshot_said F m ≡ Err f → SnapshotRefused F m f
   unfolding snapshot_said
-  snapshot_refused f h = by (ltb (length m) 7) (is_blank_lem m) refl refl h
+  snapshot_refused f h = by (ltb (length m) 7) (is_blank_message m) refl refl h
     where
-      by : (a b : Bool) → ltb (length m) 7 ≡ a → is_blank_lem m ≡ b → ◌≡◌ {A = Reading (Said T)} (cond a (Err WrongLength) (cond b (Ok blank) (listed F m (snapshot_of F m)))) (Err f) → SnapshotRefused F m f
+      by : (a b : Bool) → ltb (length m) 7 ≡ a → is_blank_message m ≡ b → ◌≡◌ {A = Reading (Said T)} (cond a (Err WrongLength) (cond b (Ok blank) (listed F m (snapshot_of F m)))) (Err f) → SnapshotRefused F m f
       by true b d e h = let same : WrongLength ≡ f = cc in inl (ltb-true (length m) 7 d, sym same)
       by false true d e h = never h
       by false false d e h = inr (ltb-false (length m) 7 d, (λ k. true≢false (sym (same_bytes m (codes "S     0") k) ∙ e)), stopped (snapshot_of F m) f refl h)
@@ -170,7 +170,7 @@ module _ {T : Type 0} (F : venue.Form T) (m : List ℕ) where
   counted_said ms l d =
       let long = counted_long ms l in
       let a : ltb (length m) 7 ≡ false = le-ltb (length m) 7 (omega arith) in
-      let b : is_blank_lem m ≡ false = not_same m (codes "S     0") (λ e. let z = ap length e in omega arith) in
+      let b : is_blank_message m ≡ false = not_same m (codes "S     0") (λ e. let z = ap length e in omega arith) in
       let r = counted_complete reader_laws F m ms l in
       let n = distinct_none ms d in
       rw (a, b, r, n)

@@ -34,8 +34,8 @@ pub data Said (T : Type 0) : Type 0 where
 abbrev pub Blank : List ℕ → Type 0
 Blank m = m ≡ codes "S     0"
 
-abbrev pub is_blank_lem : List ℕ → Bool
-is_blank_lem m = bytes_eq m (codes "S     0")
+abbrev pub is_blank_message : List ℕ → Bool
+is_blank_message m = bytes_eq m (codes "S     0")
 
 module _ {T : Type 0} (F : venue.Form T) (m : List ℕ) where
   -- these bytes lay out this message
@@ -59,7 +59,7 @@ module _ {T : Type 0} (F : venue.Form T) (m : List ℕ) where
 
   -- a snapshot: 22 under seven bytes; blank, or counted
   unfoldable pub snapshot_said : Reading (Said T)
-  snapshot_said = cond (nat_lt (length m) 7) (Err WrongLength) (cond (is_blank_lem m) (Ok blank) (listed (snapshot_of F m)))
+  snapshot_said = cond (nat_lt (length m) 7) (Err WrongLength) (cond (is_blank_message m) (Ok blank) (listed (snapshot_of F m)))
 
   -- the message by its letter: N, M, X, S, T, V
   unfoldable pub message_of : Reading (Said T)

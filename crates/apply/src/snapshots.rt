@@ -1,7 +1,7 @@
 // Snapshots, read and applied.
 ghost use Rattle.std.specs.Prelude.{◌≡◌};
 ghost use Rattle.message.specs.Reading.{◌▷◌};
-ghost use Rattle.apply.specs.Said.{is_blank_lem, snapshot_said, summed};
+ghost use Rattle.apply.specs.Said.{is_blank_message, snapshot_said, summed};
 ghost use Rattle.apply.specs.Meaning.{after, with_ladder, Works};
 
 use crate::listing::replace_listed;
@@ -12,7 +12,7 @@ use venue::Venue;
 
 // Whether the message is exactly the letter S, five spaces and the digit 0.
 pub(crate) fn is_blank(m: &[u8]) -> bool
-    ensures { result ≡ is_blank_lem m.now }
+    ensures { result ≡ is_blank_message m.now }
 {
     m == b"S     0".as_slice()
 }

@@ -6,7 +6,7 @@ use Rattle.fields.specs.declared.values.Pair.{Pair}
 use Rattle.fields.specs.declared.values.Label.{Label}
 use Rattle.fields.specs.declared.values.Price.{Price}
 use Rattle.fields.specs.declared.values.Amount.{Amount}
-use Rattle.book.specs.Sides.{before, same_side_lem, leads, AsGood}
+use Rattle.book.specs.Sides.{before, sides_agree, leads, AsGood}
 use Rattle.book.specs.declared.order.Side.{Side}
 use Rattle.book.specs.declared.order.Side.TheVariants.{Bid, Offer}
 use Rattle.book.specs.declared.order.Order.{Order}
@@ -35,7 +35,7 @@ named p i x = same_pair x.pair p && bytes_eq x.id.bytes i.bytes
 
 -- x is of this pair, side and price
 unfoldable pub at_level : {T : Type 0} → Pair → Side → Price → Order T → Bool
-at_level p s c x = same_pair x.pair p && (same_side_lem x.side s && x.price.count == c.count)
+at_level p s c x = same_pair x.pair p && (sides_agree x.side s && x.price.count == c.count)
 
 -- the ladder's order: each is ahead of all that stand behind it
 abbrev pub in_order : {T : Type 0} → List (Order T) → Bool

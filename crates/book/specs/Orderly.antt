@@ -9,7 +9,7 @@ use Rattle.std.proofs.lemmas.Bool.{leb-true, leb-false, le-leb, true≢false, fa
 use Rattle.std.proofs.lemmas.Bool.Decides.{nat_tests}
 use Rattle.fields.specs.declared.values.Pair.{Pair}
 use Rattle.fields.proofs.Sames.{pair_same, label_same}
-use Rattle.book.specs.Sides.{before, leads, same_side_lem, AsGood}
+use Rattle.book.specs.Sides.{before, leads, sides_agree, AsGood}
 use Rattle.book.specs.Ladder.{OrderId, ahead, Ahead, named, at_level}
 use Rattle.book.specs.declared.order.Side.{Side}
 use Rattle.book.specs.declared.order.Side.TheVariants.{Bid, Offer}
@@ -48,7 +48,7 @@ keeps_trans Offer a Bid b u c h k = absurd (false≢true h)
 keeps_trans Offer a Offer b Bid c h k = absurd (false≢true k)
 keeps_trans Offer a Offer b Offer c h k = le-leb a c (omega (arith, leb-true a b h, leb-true b c k))
 
-leads_both : (s : Side) (a : ℕ) (t : Side) (b : ℕ) → leads s a t b ≡ true → leads t b s a ≡ true → (same_side_lem t s && b == a) ≡ true
+leads_both : (s : Side) (a : ℕ) (t : Side) (b : ℕ) → leads s a t b ≡ true → leads t b s a ≡ true → (sides_agree t s && b == a) ≡ true
 leads_both Bid a Bid b h k = grind (arith, nat_tests)
 leads_both Bid a Offer b h k = absurd (false≢true k)
 leads_both Offer a Bid b h k = absurd (false≢true h)

@@ -12,8 +12,8 @@ use Rattle.fields.specs.declared.values.Amount.{Amount}
 use Rattle.fields.proofs.Sames.{pair_same, label_same, price_same, amount_same}
 use Rattle.book.specs.Ladder.{OrderId, ahead, named, at_level, in_order, apart, stands, placed, without, at_rank, amended, reset, cleared}
 use Rattle.book.specs.Calls.{Finds}
-use Rattle.book.specs.Rows.{Formed, formed, all_formed, form_of, order_of_lem, orders, row_of_lem, reset_row_lem, first_formed, rest_formed, Remakes}
-use Rattle.book.specs.RowTests.{row_of, row_named, row_ahead, row_at_level, First, AheadOf}
+use Rattle.book.specs.Rows.{Formed, formed, all_formed, form_of, whole_order, orders, order_row, changed_row, first_formed, rest_formed, Remakes}
+use Rattle.book.specs.RowTests.{row_of_pair, row_named, row_ahead, row_at_level, First, AheadOf}
 use Rattle.book.specs.declared.order.Side.{Side}
 use Rattle.book.specs.declared.order.Order.{Order}
 use Rattle.book.specs.declared.row.Row.{Row}
@@ -28,19 +28,19 @@ truth_prop x = hlevel props
 
 module _ {R : Type 0} where
   -- a row made of an order is formed
-  row_formed : {T : Type 0} (row : T → R) (o : Order T) → formed (row_of_lem row o) ≡ true
+  row_formed : {T : Type 0} (row : T → R) (o : Order T) → formed (order_row row o) ≡ true
   row_formed row o = and_from _ _ o.pair.ok (and_from _ _ o.id.ok (and_from _ _ o.price.ok o.amount.ok))
 
   -- and gives the order back
-  order_back : {T : Type 0} (row : T → R) (given : R → T) → ((t : T) → given (row t) ≡ t) → (o : Order T) (f : Formed (row_of_lem row o)) → order_of_lem given (row_of_lem row o) f ≡ o
+  order_back : {T : Type 0} (row : T → R) (given : R → T) → ((t : T) → given (row t) ≡ t) → (o : Order T) (f : Formed (order_row row o)) → whole_order given (order_row row o) f ≡ o
   order_back row given back o f =
       same_order _ o (pair_same _ o.pair refl) refl (label_same 15 _ o.id refl) (price_same _ o.price refl) (amount_same _ o.amount refl) (back o.terms)
 
   same_orders : {T : Type 0} (given : R → T) (rs : List (Row R)) (f h : all_formed rs ≡ true) → orders given rs f ≡ orders given rs h
   same_orders given rs f h = ap (orders given rs) (truth_prop (all_formed rs) f h)
 
-  same_first : {T : Type 0} (given : R → T) (r : Row R) (f h : formed r ≡ true) → order_of_lem given r (form_of r f) ≡ order_of_lem given r (form_of r h)
-  same_first given r f h = ap (λ e. order_of_lem given r (form_of r e)) (truth_prop (formed r) f h)
+  same_first : {T : Type 0} (given : R → T) (r : Row R) (f h : formed r ≡ true) → whole_order given r (form_of r f) ≡ whole_order given r (form_of r h)
+  same_first given r f h = ap (λ e. whole_order given r (form_of r e)) (truth_prop (formed r) f h)
 
   pub orders_length : {T : Type 0} (given : R → T) (rs : List (Row R)) (f : all_formed rs ≡ true) → length (orders given rs f) ≡ length rs
   orders_length given [] f = refl
@@ -50,7 +50,7 @@ module _ {R : Type 0} where
   orders_fit given rs f n slots e h = omega (arith, orders_length given rs f)
 
   -- the order and the ids do not look at the terms
-  plain_ahead : {T : Type 0} (given : R → T) (r : Row R) (F : Formed r) (qs : List (Row R)) (h : all_formed qs ≡ true) → list_all (λ y. ahead (order_of_lem given r F) y) (orders given qs h) ≡ list_all (λ y. ahead (order_of_lem (λ t. t) r F) y) (orders (λ t. t) qs h)
+  plain_ahead : {T : Type 0} (given : R → T) (r : Row R) (F : Formed r) (qs : List (Row R)) (h : all_formed qs ≡ true) → list_all (λ y. ahead (whole_order given r F) y) (orders given qs h) ≡ list_all (λ y. ahead (whole_order (λ t. t) r F) y) (orders (λ t. t) qs h)
   unfolding ahead
   plain_ahead given r F [] h = refl
   plain_ahead given r F (q ∷ qs) h = ap₂ ◌&&◌ refl (plain_ahead given r F qs (rest_formed q qs h))
@@ -95,13 +95,13 @@ module _ {R : Type 0} where
       is = shows_is rs l s;
     })
 
-    cons_shows : (r : Row R) (e : formed r ≡ true) (rs : List (Row R)) (l : List (Order T)) → Shows rs l → Shows (r ∷ rs) (order_of_lem given r (form_of r e) ∷ l)
+    cons_shows : (r : Row R) (e : formed r ≡ true) (rs : List (Row R)) (l : List (Order T)) → Shows rs l → Shows (r ∷ rs) (whole_order given r (form_of r e) ∷ l)
     cons_shows r e rs l s =
         let f : all_formed (r ∷ rs) ≡ true = and_from _ _ e s.formed in
         record { formed = f; is = ap₂ ◌∷◌ (same_first given r (first_formed r rs f) e) (shows_is rs l s (rest_formed r rs f)) }
 
     -- a test of the orders that is a test of their rows
-    module _ (t : Order T → Bool) (q : Row R → Bool) (alike : (r : Row R) (F : Formed r) → t (order_of_lem given r F) ≡ q r) where
+    module _ (t : Order T → Bool) (q : Row R → Bool) (alike : (r : Row R) (F : Formed r) → t (whole_order given r F) ≡ q r) where
       all_orders : (rs : List (Row R)) (f : all_formed rs ≡ true) → AllWithin (λ x. q x ≡ false) rs 0 (length rs) → AllByRecursion (λ x. t x ≡ false) (orders given rs f)
       all_orders [] f h = tt
       all_orders (r ∷ rs) f h = (alike r _ ∙ h 0 r (omega arith) (omega arith), all_orders rs (rest_formed r rs f) (tail_every (λ x. q x ≡ false) r rs (length rs) h))
@@ -126,14 +126,14 @@ module _ {R : Type 0} where
     pub found_stands : (p : Pair) (i : OrderId) (rs : List (Row R)) (f : all_formed rs ≡ true) (r : Option ℕ) → First (row_named p i) rs r → stands p i (orders given rs f) ≡ is_some r
     found_stands p i rs f r h = finds_stands p i (orders given rs f) r (finds_named p i rs f r h)
 
-    at_row : (rs : List (Row R)) (f : all_formed rs ≡ true) (k : ℕ) (d : Row R) → k < length rs → (F : Formed (slice_index_or rs k d)) × (at_rank (orders given rs f) k ≡ Some (order_of_lem given (slice_index_or rs k d) F))
+    at_row : (rs : List (Row R)) (f : all_formed rs ≡ true) (k : ℕ) (d : Row R) → k < length rs → (F : Formed (slice_index_or rs k d)) × (at_rank (orders given rs f) k ≡ Some (whole_order given (slice_index_or rs k d) F))
     at_row [] f k d l = absurd (omega arith)
     at_row (r ∷ rs) f zero d l = (form_of r (first_formed r rs f), refl)
     at_row (r ∷ rs) f (suc k) d l = at_row rs (rest_formed r rs f) k d (omega arith)
 
-    remakes_some : (r : Row R) (F : Formed r) (o : Option (Order T)) → Remakes given r o → o ≡ Some (order_of_lem given r F)
+    remakes_some : (r : Row R) (F : Formed r) (o : Option (Order T)) → Remakes given r o → o ≡ Some (whole_order given r F)
     remakes_some r F None h = absurd (h F)
-    remakes_some r F (Some o) h = ap Some (h.1 ∙ same_order _ (order_of_lem given r F) (pair_same _ _ refl) refl (label_same 15 _ _ refl) (price_same _ _ refl) (amount_same _ _ refl) refl)
+    remakes_some r F (Some o) h = ap Some (h.1 ∙ same_order _ (whole_order given r F) (pair_same _ _ refl) refl (label_same 15 _ _ refl) (price_same _ _ refl) (amount_same _ _ refl) refl)
 
     -- the order of the row that was read is the one at the rank
     pub row_at_rank : (rs : List (Row R)) (f : all_formed rs ≡ true) (k : ℕ) (r : Row R) (o : Option (Order T)) → k < length rs → r ≡ slice_index_or rs k r → Remakes given r o → o ≡ at_rank (orders given rs f) k
@@ -147,7 +147,7 @@ module _ {R : Type 0} where
     removed_shows p i [] k f a h = absurd (omega (arith, h.0))
     removed_shows p i (r ∷ rs) zero f a h =
         let F = rest_formed r rs f in
-        let x = order_of_lem given r (form_of r (first_formed r rs f)) in
+        let x = whole_order given r (form_of r (first_formed r rs f)) in
         let xs = orders given rs F in
         let n = h.1 r in
         let none = alone p i x xs n (and_parts (not (stands x.pair x.id xs)) (apart xs) a).0 in
@@ -155,70 +155,70 @@ module _ {R : Type 0} where
     removed_shows p i (r ∷ rs) (suc k) f a h =
         let F = rest_formed r rs f in
         let e = first_formed r rs f in
-        let x = order_of_lem given r (form_of r e) in
+        let x = whole_order given r (form_of r e) in
         let xs = orders given rs F in
         let ih = removed_shows p i rs k F (and_parts (not (stands x.pair x.id xs)) (apart xs) a).1 (omega (arith, h.0), (λ d. h.1 d), tail_every (λ x. row_named p i x ≡ false) r rs k h.2) in
         subst (λ b. Shows (r ∷ remove rs k) (cond b (without p i xs) (x ∷ without p i xs))) (sym (h.2 0 r (omega arith) (omega arith))) (cons_shows r e (remove rs k) (without p i xs) ih)
 
     -- the rows of a pair taken off
-    cleared_shows : (p : Pair) (rs : List (Row R)) (f : all_formed rs ≡ true) → Shows (filter (λ x. not (row_of p x)) rs) (cleared p (orders given rs f))
+    cleared_shows : (p : Pair) (rs : List (Row R)) (f : all_formed rs ≡ true) → Shows (filter (λ x. not (row_of_pair p x)) rs) (cleared p (orders given rs f))
     cleared_shows p [] f = record { formed = refl; is = refl }
     cleared_shows p (r ∷ rs) f =
         let e = first_formed r rs f in
-        let x = order_of_lem given r (form_of r e) in
-        let ks = filter (λ x. not (row_of p x)) rs in
+        let x = whole_order given r (form_of r e) in
+        let ks = filter (λ x. not (row_of_pair p x)) rs in
         let xs = cleared p (orders given rs (rest_formed r rs f)) in
         let ih = cleared_shows p rs (rest_formed r rs f) in
-        elim (row_of p r) as (λ b. Shows (cond (not b) (r ∷ ks) ks) (cond b xs (x ∷ xs))) [ true ↦ ih | false ↦ cons_shows r e ks xs ih ]
+        elim (row_of_pair p r) as (λ b. Shows (cond (not b) (r ∷ ks) ks) (cond b xs (x ∷ xs))) [ true ↦ ih | false ↦ cons_shows r e ks xs ih ]
 
     module _ (row : T → R) (back : (t : T) → given (row t) ≡ t) where
-      own_shows : (o : Order T) (rs : List (Row R)) (l : List (Order T)) → Shows rs l → Shows (row_of_lem row o ∷ rs) (o ∷ l)
+      own_shows : (o : Order T) (rs : List (Row R)) (l : List (Order T)) → Shows rs l → Shows (order_row row o ∷ rs) (o ∷ l)
       own_shows o rs l s =
           let e = row_formed row o in
-          let c = cons_shows (row_of_lem row o) e rs l s in
-          record { formed = c.formed; is = c.is ∙ ap (λ x. x ∷ l) (order_back row given back o (form_of (row_of_lem row o) e)) }
+          let c = cons_shows (order_row row o) e rs l s in
+          record { formed = c.formed; is = c.is ∙ ap (λ x. x ∷ l) (order_back row given back o (form_of (order_row row o) e)) }
 
       -- a row put in behind those that are ahead of its order
-      insert_shows : (o : Order T) (rs : List (Row R)) (k : ℕ) (f : all_formed rs ≡ true) → k ≤ length rs → AllWithin (λ x. row_ahead x o ≡ true) rs 0 k → (k < length rs → HoldsAt (λ x. row_ahead x o ≡ false) rs k) → Shows (insert rs k (row_of_lem row o)) (placed o (orders given rs f))
+      insert_shows : (o : Order T) (rs : List (Row R)) (k : ℕ) (f : all_formed rs ≡ true) → k ≤ length rs → AllWithin (λ x. row_ahead x o ≡ true) rs 0 k → (k < length rs → HoldsAt (λ x. row_ahead x o ≡ false) rs k) → Shows (insert rs k (order_row row o)) (placed o (orders given rs f))
       unfolding ahead
       insert_shows o [] zero f l e n = own_shows o [] [] (record { formed = refl; is = refl })
       insert_shows o [] (suc k) f l e n = absurd (omega arith)
       insert_shows o (r ∷ rs) zero f l e n =
-          let x = order_of_lem given r (form_of r (first_formed r rs f)) in
+          let x = whole_order given r (form_of r (first_formed r rs f)) in
           let xs = orders given rs (rest_formed r rs f) in
-          subst (λ b. Shows (row_of_lem row o ∷ (r ∷ rs)) (cond b (x ∷ placed o xs) (o ∷ (x ∷ xs)))) (sym (n (omega arith) r)) (own_shows o (r ∷ rs) (x ∷ xs) (record { formed = f; is = refl }))
+          subst (λ b. Shows (order_row row o ∷ (r ∷ rs)) (cond b (x ∷ placed o xs) (o ∷ (x ∷ xs)))) (sym (n (omega arith) r)) (own_shows o (r ∷ rs) (x ∷ xs) (record { formed = f; is = refl }))
       insert_shows o (r ∷ rs) (suc k) f l e n =
           let h = first_formed r rs f in
-          let x = order_of_lem given r (form_of r h) in
+          let x = whole_order given r (form_of r h) in
           let xs = orders given rs (rest_formed r rs f) in
           let ih = insert_shows o rs k (rest_formed r rs f) (omega arith) (tail_every (λ x. row_ahead x o ≡ true) r rs k e) (λ m d. n (omega arith) d) in
-          subst (λ b. Shows (r ∷ insert rs k (row_of_lem row o)) (cond b (x ∷ placed o xs) (o ∷ (x ∷ xs)))) (sym (e 0 r (omega arith) (omega arith))) (cons_shows r h (insert rs k (row_of_lem row o)) (placed o xs) ih)
+          subst (λ b. Shows (r ∷ insert rs k (order_row row o)) (cond b (x ∷ placed o xs) (o ∷ (x ∷ xs)))) (sym (e 0 r (omega arith) (omega arith))) (cons_shows r h (insert rs k (order_row row o)) (placed o xs) ih)
 
-      inserted_shows : (o : Order T) (rs : List (Row R)) (k : ℕ) (f : all_formed rs ≡ true) → AheadOf o rs k → Shows (insert rs k (row_of_lem row o)) (placed o (orders given rs f))
+      inserted_shows : (o : Order T) (rs : List (Row R)) (k : ℕ) (f : all_formed rs ≡ true) → AheadOf o rs k → Shows (insert rs k (order_row row o)) (placed o (orders given rs f))
       inserted_shows o rs k f at = insert_shows o rs k f at.0 at.1 at.2
 
       -- a row with another amount and other terms
-      set_shows : (p : Pair) (i : OrderId) (a : Amount) (t : T) (rs : List (Row R)) (k : ℕ) (d : Row R) (f : all_formed rs ≡ true) → apart (orders given rs f) ≡ true → First (row_named p i) rs (Some k) → Shows (slice_set rs k (reset_row_lem a.count (row t) (slice_index_or rs k d))) (amended p i a t (orders given rs f))
+      set_shows : (p : Pair) (i : OrderId) (a : Amount) (t : T) (rs : List (Row R)) (k : ℕ) (d : Row R) (f : all_formed rs ≡ true) → apart (orders given rs f) ≡ true → First (row_named p i) rs (Some k) → Shows (slice_set rs k (changed_row a.count (row t) (slice_index_or rs k d))) (amended p i a t (orders given rs f))
       unfolding named
       set_shows p i a t [] k d f u h = absurd (omega (arith, h.0))
       set_shows p i a t (r ∷ rs) zero d f u h =
           let e = first_formed r rs f in
-          let x = order_of_lem given r (form_of r e) in
+          let x = whole_order given r (form_of r e) in
           let xs = orders given rs (rest_formed r rs f) in
           let n = h.1 r in
           let none = alone p i x xs n (and_parts (not (stands x.pair x.id xs)) (apart xs) u).0 in
-          let q = reset_row_lem a.count (row t) r in
+          let q = changed_row a.count (row t) r in
           let g = form_of r e in
           let w : formed q ≡ true = and_from _ _ g.pair (and_from _ _ g.id (and_from _ _ g.price a.ok)) in
           let c = cons_shows q w rs xs (record { formed = rest_formed r rs f; is = refl }) in
-          let same = same_order (order_of_lem given q (form_of q w)) (reset a t x) (pair_same _ x.pair refl) refl (label_same 15 _ x.id refl) (price_same _ x.price refl) (amount_same _ a refl) (back t) in
+          let same = same_order (whole_order given q (form_of q w)) (reset a t x) (pair_same _ x.pair refl) refl (label_same 15 _ x.id refl) (price_same _ x.price refl) (amount_same _ a refl) (back t) in
           record { formed = c.formed; is = c.is ∙ ap₂ ◌∷◌ (same ∙ ap (λ b. cond b (reset a t x) x) (sym n)) (sym (amended_none a t p i xs none)) }
       set_shows p i a t (r ∷ rs) (suc k) d f u h =
           let e = first_formed r rs f in
-          let x = order_of_lem given r (form_of r e) in
+          let x = whole_order given r (form_of r e) in
           let xs = orders given rs (rest_formed r rs f) in
           let ih = set_shows p i a t rs k d (rest_formed r rs f) (and_parts (not (stands x.pair x.id xs)) (apart xs) u).1 (omega (arith, h.0), (λ z. h.1 z), tail_every (λ x. row_named p i x ≡ false) r rs k h.2) in
-          let qs = set rs k (reset_row_lem a.count (row t) (slice_index_or rs k d)) in
+          let qs = set rs k (changed_row a.count (row t) (slice_index_or rs k d)) in
           subst (λ b. Shows (r ∷ qs) (cond b (reset a t x) x ∷ amended p i a t xs)) (sym (h.2 0 r (omega arith) (omega arith))) (cons_shows r e qs (amended p i a t xs) ih)
 
   -- what each change of a sound book's rows holds
@@ -233,15 +233,15 @@ module _ {R : Type 0} where
     removed_holds p i k h qs e =
         holds given (remove rs k) qs _ e (removed_shows given p i rs k f ladder_distinct h) (without_in_order p i (orders given rs f) ladder_sorted) (without_apart p i (orders given rs f) ladder_distinct)
 
-    pub cleared_holds : (p : Pair) (qs : List (Row R)) → qs ≡ filter (λ x. not (row_of p x)) rs → Holds given qs (cleared p (orders given rs f))
+    pub cleared_holds : (p : Pair) (qs : List (Row R)) → qs ≡ filter (λ x. not (row_of_pair p x)) rs → Holds given qs (cleared p (orders given rs f))
     cleared_holds p qs e =
-        holds given (filter (λ x. not (row_of p x)) rs) qs _ e (cleared_shows given p rs f) (cleared_in_order p (orders given rs f) ladder_sorted) (cleared_apart p (orders given rs f) ladder_distinct)
+        holds given (filter (λ x. not (row_of_pair p x)) rs) qs _ e (cleared_shows given p rs f) (cleared_in_order p (orders given rs f) ladder_sorted) (cleared_apart p (orders given rs f) ladder_distinct)
 
     module _ (row : T → R) (back : (t : T) → given (row t) ≡ t) where
-      pub inserted_holds : (o : Order T) (k : ℕ) → AheadOf o rs k → stands o.pair o.id (orders given rs f) ≡ false → (qs : List (Row R)) → qs ≡ insert rs k (row_of_lem row o) → Holds given qs (placed o (orders given rs f))
+      pub inserted_holds : (o : Order T) (k : ℕ) → AheadOf o rs k → stands o.pair o.id (orders given rs f) ≡ false → (qs : List (Row R)) → qs ≡ insert rs k (order_row row o) → Holds given qs (placed o (orders given rs f))
       inserted_holds o k at none qs e =
-          holds given (insert rs k (row_of_lem row o)) qs _ e (inserted_shows given row back o rs k f at) (placed_in_order o (orders given rs f) ladder_sorted) (placed_apart o (orders given rs f) ladder_distinct none)
+          holds given (insert rs k (order_row row o)) qs _ e (inserted_shows given row back o rs k f at) (placed_in_order o (orders given rs f) ladder_sorted) (placed_apart o (orders given rs f) ladder_distinct none)
 
-      pub set_holds : (p : Pair) (i : OrderId) (a : Amount) (t : T) (k : ℕ) (d : Row R) → First (row_named p i) rs (Some k) → (qs : List (Row R)) → qs ≡ slice_set rs k (reset_row_lem a.count (row t) (slice_index_or rs k d)) → Holds given qs (amended p i a t (orders given rs f))
+      pub set_holds : (p : Pair) (i : OrderId) (a : Amount) (t : T) (k : ℕ) (d : Row R) → First (row_named p i) rs (Some k) → (qs : List (Row R)) → qs ≡ slice_set rs k (changed_row a.count (row t) (slice_index_or rs k d)) → Holds given qs (amended p i a t (orders given rs f))
       set_holds p i a t k d h qs e =
-          holds given (slice_set rs k (reset_row_lem a.count (row t) (slice_index_or rs k d))) qs _ e (set_shows given row back p i a t rs k d f ladder_distinct h) (amended_in_order a t p i (orders given rs f) ∙ ladder_sorted) (amended_apart a t p i (orders given rs f) ∙ ladder_distinct)
+          holds given (slice_set rs k (changed_row a.count (row t) (slice_index_or rs k d))) qs _ e (set_shows given row back p i a t rs k d f ladder_distinct h) (amended_in_order a t p i (orders given rs f) ∙ ladder_sorted) (amended_apart a t p i (orders given rs f) ∙ ladder_distinct)

@@ -4,7 +4,7 @@ use Rattle.std.specs.List.{AllWithin, HoldsAt}
 use Rattle.std.specs.Str.{bytes_eq}
 use Rattle.fields.specs.declared.values.Pair.{Pair}
 use Rattle.fields.specs.declared.values.Price.{Price}
-use Rattle.book.specs.Sides.{before, same_side_lem, leads}
+use Rattle.book.specs.Sides.{before, sides_agree, leads}
 use Rattle.book.specs.Ladder.{OrderId}
 use Rattle.book.specs.declared.order.Side.{Side}
 use Rattle.book.specs.declared.order.Order.{Order}
@@ -15,14 +15,14 @@ abbrev pub row_ahead : {R T : Type 0} → Row R → Order T → Bool
 row_ahead x o =
     cond (bytes_eq x.pair o.pair.bytes) (leads x.side x.price o.side o.price.count) (before x.pair o.pair.bytes)
 
-abbrev pub row_of : {R : Type 0} → Pair → Row R → Bool
-row_of p x = bytes_eq x.pair p.bytes
+abbrev pub row_of_pair : {R : Type 0} → Pair → Row R → Bool
+row_of_pair p x = bytes_eq x.pair p.bytes
 
 abbrev pub row_named : {R : Type 0} → Pair → OrderId → Row R → Bool
-row_named p i x = row_of p x && bytes_eq x.id i.bytes
+row_named p i x = row_of_pair p x && bytes_eq x.id i.bytes
 
 abbrev pub row_at_level : {R : Type 0} → Pair → Side → Price → Row R → Bool
-row_at_level p s c x = row_of p x && (same_side_lem x.side s && x.price == c.count)
+row_at_level p s c x = row_of_pair p x && (sides_agree x.side s && x.price == c.count)
 
 -- the rank of the first row that passes, or none where none does
 abbrev pub First : {X : Type 0} → (X → Bool) → List X → Option ℕ → Type 0

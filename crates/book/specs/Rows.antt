@@ -29,8 +29,8 @@ form_of r e =
     record { pair = a.0; id = b.0; price = c.0; amount = c.1 }
 
 -- the order of a row; terms are given by their own row
-abbrev pub order_of_lem : {R T : Type 0} → (R → T) → (r : Row R) → Formed r → Order T
-order_of_lem given r f = record {
+abbrev pub whole_order : {R T : Type 0} → (R → T) → (r : Row R) → Formed r → Order T
+whole_order given r f = record {
   pair = record { bytes = r.pair; ok = f.pair };
   side = r.side;
   id = record { bytes = r.id; ok = f.id };
@@ -47,17 +47,17 @@ rest_formed r rs f = (and_parts (formed r) (all_formed rs) f).1
 
 abbrev pub orders : {R T : Type 0} → (R → T) → (rs : List (Row R)) → all_formed rs ≡ true → List (Order T)
 orders given [] f = []
-orders given (r ∷ rs) f = order_of_lem given r (form_of r (first_formed r rs f)) ∷ orders given rs (rest_formed r rs f)
+orders given (r ∷ rs) f = whole_order given r (form_of r (first_formed r rs f)) ∷ orders given rs (rest_formed r rs f)
 
 -- the row of an order
-abbrev pub row_of_lem : {R T : Type 0} → (T → R) → Order T → Row R
-row_of_lem row o = record { pair = o.pair.bytes; side = o.side; id = o.id.bytes; price = o.price.count; amount = o.amount.count; terms = row o.terms }
+abbrev pub order_row : {R T : Type 0} → (T → R) → Order T → Row R
+order_row row o = record { pair = o.pair.bytes; side = o.side; id = o.id.bytes; price = o.price.count; amount = o.amount.count; terms = row o.terms }
 
 -- the row with another amount and other terms
-abbrev pub reset_row_lem : {R : Type 0} → ℕ → R → Row R → Row R
-reset_row_lem a z r = record { pair = r.pair; side = r.side; id = r.id; price = r.price; amount = a; terms = z }
+abbrev pub changed_row : {R : Type 0} → ℕ → R → Row R → Row R
+changed_row a z r = record { pair = r.pair; side = r.side; id = r.id; price = r.price; amount = a; terms = z }
 
 -- an order is made again from its row, and none exactly where the row is of no order
 abbrev pub Remakes : {R T : Type 0} → (R → T) → Row R → Option (Order T) → Type 0
 Remakes given r None = Formed r → ⊥
-Remakes given r (Some o) = (f : Formed r) × (o ≡ order_of_lem given r f)
+Remakes given r (Some o) = (f : Formed r) × (o ≡ whole_order given r f)

@@ -10,11 +10,11 @@ before [] (t ∷ ts) = true
 before (s ∷ ss) [] = false
 before (s ∷ ss) (t ∷ ts) = cond (s == t) (before ss ts) (nat_lt s t)
 
-abbrev pub same_side_lem : Side → Side → Bool
-same_side_lem Bid Bid = true
-same_side_lem Bid Offer = false
-same_side_lem Offer Bid = false
-same_side_lem Offer Offer = true
+abbrev pub sides_agree : Side → Side → Bool
+sides_agree Bid Bid = true
+sides_agree Bid Offer = false
+sides_agree Offer Bid = false
+sides_agree Offer Offer = true
 
 -- in one pair, an order of side s at price p that stands already leads one of side t at price q:
 -- bids lead offers; on one side the better price leads, and an equal one too

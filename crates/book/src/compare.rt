@@ -1,7 +1,7 @@
 // Comparisons of bytes, sides and prices.
 ghost use Rattle.std.specs.Prelude.{◌≡◌};
 ghost use Rattle.std.specs.Str.{bytes_eq};
-ghost use Rattle.book.specs.Sides.{before, leads, same_side_lem};
+ghost use Rattle.book.specs.Sides.{before, leads, sides_agree};
 
 use crate::order::Side;
 
@@ -12,7 +12,7 @@ pub(crate) fn same(a: &[u8], b: &[u8]) -> bool
 }
 
 pub(crate) fn same_side(a: Side, b: Side) -> bool
-    ensures { result ≡ same_side_lem a b }
+    ensures { result ≡ sides_agree a b }
 {
     match a {
         Side::Bid => match b {

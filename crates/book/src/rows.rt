@@ -1,7 +1,7 @@
 // Orders as rows, and what a row is asked.
 ghost use Rattle.std.specs.Prelude.{◌≡◌, Bool, not};
-ghost use Rattle.book.specs.Rows.{row_of_lem, reset_row_lem, Remakes};
-ghost use Rattle.book.specs.RowTests.{row_ahead, row_of, row_named, row_at_level};
+ghost use Rattle.book.specs.Rows.{order_row, changed_row, Remakes};
+ghost use Rattle.book.specs.RowTests.{row_ahead, row_of_pair, row_named, row_at_level};
 ghost use Rattle.book.specs.declared.row.Row.{Row};
 
 use crate::compare;
@@ -10,7 +10,7 @@ use crate::row::Row;
 use fields::{Amount, OrderId, Pair, Price};
 
 pub(crate) fn row_of<T: Terms>(order: &Order<T>) -> Row<T::Row>
-    ensures { result ≡ row_of_lem T.Terms.row order.now }
+    ensures { result ≡ order_row T.Terms.row order.now }
 {
     Row {
         pair: order.pair.bytes(),
@@ -47,7 +47,7 @@ pub(crate) fn order_of<T: Terms>(row: &Row<T::Row>) -> Option<Order<T>>
 
 // The row with another amount and other terms.
 pub(crate) fn reset_row<T: Terms>(row: &Row<T::Row>, amount: Amount, terms: T) -> Row<T::Row>
-    ensures { result ≡ reset_row_lem amount.count (T.Terms.row terms) row.now }
+    ensures { result ≡ changed_row amount.count (T.Terms.row terms) row.now }
 {
     Row {
         pair: row.pair,
@@ -68,7 +68,7 @@ pub(crate) trait RowTest<R> {
 }
 
 fn is_of<R>(row: &Row<R>, pair: &Pair) -> bool
-    ensures { result ≡ row_of pair.now row.now }
+    ensures { result ≡ row_of_pair pair.now row.now }
 {
     compare::same(&row.pair, &pair.bytes())
 }
@@ -78,7 +78,7 @@ fn is_of<R>(row: &Row<R>, pair: &Pair) -> bool
 pub(crate) struct OfPair(pub(crate) Pair);
 
 impl<R> RowTest<R> for OfPair {
-    ghost holds = { λ t x. row_of t.0 x };
+    ghost holds = { λ t x. row_of_pair t.0 x };
 
     fn passes(&self, row: &Row<R>) -> bool {
         is_of(row, &self.0)

@@ -16,7 +16,7 @@ use Rattle.message.specs.declared.messages.Cancel.{Cancel}
 use Rattle.message.specs.declared.messages.Modify.{Modify}
 use Rattle.snapshot.specs.declared.mark.Mark.{Mark}
 use Rattle.snapshot.specs.Listing.{lists, pairs_listed, orders_put, replaced}
-use Rattle.orders.specs.Applied.{same_id_lem, target, active_order_lem}
+use Rattle.orders.specs.Applied.{ids_agree, target, order_of_active}
 use Rattle.orders.specs.Laws.{NewDone, CancelDone, ChangeDone, ModifyDone}
 use Rattle.orders.proofs.Standings.{same_one, one_same, named_self}
 use Rattle.apply.specs.Said.{Said, new, modify, cancel, listing, blank, trade, volume}
@@ -36,8 +36,8 @@ one_pair : (q p : Pair) → q ≡ p → same_pair q p ≡ true
 one_pair q p e = same_bytes q.bytes p.bytes (ap (λ x. x.bytes) e)
 
 -- the target is named, whether it is the replaced id or the active one
-ids_named : (r : Option OrderId) (a i : OrderId) → (same_id_lem a i || filled_as r i) ≡ (same_id_lem a i || same_id_lem (unwrap_or r a) i)
-ids_named None a i = elim (same_id_lem a i) as (λ b. (b || false) ≡ (b || b)) [ true ↦ refl | false ↦ refl ]
+ids_named : (r : Option OrderId) (a i : OrderId) → (ids_agree a i || filled_as r i) ≡ (ids_agree a i || ids_agree (unwrap_or r a) i)
+ids_named None a i = elim (ids_agree a i) as (λ b. (b || false) ≡ (b || b)) [ true ↦ refl | false ↦ refl ]
 ids_named (Some j) a i = refl
 
 module _ {T : Type 0} where
@@ -67,9 +67,9 @@ module _ {T : Type 0} where
         go false e = unchanged (d.others p i (λ a b. both_ways _ e (ap₂ (λ q j. named q j o) a b ∙ named_self o)))
 
     cancel_step : (x : Cancel) → CancelDone l x l' → StandsAs (lookup p i l') p i (last_put (cancel x ∷ h) p i) (last_named (cancel x ∷ h) p i)
-    cancel_step x d = go (same_pair x.pair p && same_id_lem x.id i) refl
+    cancel_step x d = go (same_pair x.pair p && ids_agree x.id i) refl
       where
-        go : (b : Bool) → (same_pair x.pair p && same_id_lem x.id i) ≡ b → StandsAs (lookup p i l') p i (last_put h p i) (cond b None (last_named h p i))
+        go : (b : Bool) → (same_pair x.pair p && ids_agree x.id i) ≡ b → StandsAs (lookup p i l') p i (last_put h p i) (cond b None (last_named h p i))
         go true e = let k = and_parts _ _ e in looked x.pair x.id p i (pair_one x.pair p k.0) (same_one x.id i k.1) l' None d.gone
         go false e = unchanged (d.others p i (λ a b. both_ways _ e (and_from _ _ (one_pair x.pair p (sym a)) (one_same x.id i (sym b)))))
 
@@ -77,9 +77,9 @@ module _ {T : Type 0} where
     modify_step x ok d =
         subst (λ n. StandsAs (lookup p i l') p i (last_put (modify x ∷ h) p i) (cond (same_pair x.pair p && n) (puts (modify x) p i) (last_named h p i)))
         (sym (ids_named x.replaced x.active i))
-        (go x.price refl d.done (same_pair x.pair p) (same_id_lem x.active i) (same_id_lem (target x) i) refl refl refl)
+        (go x.price refl d.done (same_pair x.pair p) (ids_agree x.active i) (ids_agree (target x) i) refl refl refl)
       where
-        go : (c : Option Price) → x.price ≡ c → ChangeDone l x c d.old l' → (b a t : Bool) → same_pair x.pair p ≡ b → same_id_lem x.active i ≡ a → same_id_lem (target x) i ≡ t
+        go : (c : Option Price) → x.price ≡ c → ChangeDone l x c d.old l' → (b a t : Bool) → same_pair x.pair p ≡ b → ids_agree x.active i ≡ a → ids_agree (target x) i ≡ t
             → StandsAs (lookup p i l') p i (with_price c (b && a) (last_put h p (target x)) (last_put h p i))
             (cond (b && (a || t)) (cond (b && a) (Some (x.amount, x.terms)) None) (last_named h p i))
         go None ec k true true t eb ea et =
@@ -87,7 +87,7 @@ module _ {T : Type 0} where
             let j : target x ≡ i = ap (λ r. unwrap_or r x.active) (ok ec) ∙ same_one x.active i ea in
             let f = of_standing p i (lookup p i l) (last_put h p i) (last_named h p i) (s p i) d.old (looked x.pair (target x) p i q j l (Some d.old) d.stood) in
             (reset x.amount x.terms d.old, looked x.pair (target x) p i q j l' _ k.stands_then, f.0, f.1, refl, refl, f.2)
-        go None ec k true false true eb ea et = absurd (both_ways _ ea (ap (λ r. same_id_lem (unwrap_or r x.active) i) (sym (ok ec)) ∙ et))
+        go None ec k true false true eb ea et = absurd (both_ways _ ea (ap (λ r. ids_agree (unwrap_or r x.active) i) (sym (ok ec)) ∙ et))
         go None ec k true false false eb ea et = unchanged (k.others p i (λ a b. both_ways _ et (one_same (target x) i (sym b))))
         go None ec k false a t eb ea et = unchanged (k.others p i (λ a b. both_ways _ eb (one_pair x.pair p (sym a))))
         go (Some c) ec k true true t eb ea et =
@@ -95,9 +95,9 @@ module _ {T : Type 0} where
             let j = same_one x.active i ea in
             let f = of_standing p (target x) (lookup p (target x) l) (last_put h p (target x)) (last_named h p (target x)) (s p (target x)) d.old
             (looked x.pair (target x) p (target x) q refl l (Some d.old) d.stood) in
-            (active_order_lem x c d.old.side, looked x.pair x.active p i q j l' _ k.stands_then, q, j, refl, refl, ap (option_map (λ y. (y.0, c))) f.2)
+            (order_of_active x c d.old.side, looked x.pair x.active p i q j l' _ k.stands_then, q, j, refl, refl, ap (option_map (λ y. (y.0, c))) f.2)
         go (Some c) ec k true false true eb ea et =
-            looked x.pair (target x) p i (pair_one x.pair p eb) (same_one (target x) i et) l' None (k.gone (λ e. both_ways _ ea (ap (λ j. same_id_lem j i) e ∙ et)))
+            looked x.pair (target x) p i (pair_one x.pair p eb) (same_one (target x) i et) l' None (k.gone (λ e. both_ways _ ea (ap (λ j. ids_agree j i) e ∙ et)))
         go (Some c) ec k true false false eb ea et =
             unchanged (k.others p i (λ a b. both_ways _ et (one_same (target x) i (sym b))) (λ a b. both_ways _ ea (one_same x.active i (sym b))))
         go (Some c) ec k false a t eb ea et =

@@ -12,7 +12,7 @@ use Rattle.message.specs.Reading.{Reading}
 use Rattle.packet.specs.declared.packets.Packet.{Packet}
 use Rattle.packet.specs.declared.packets.Packet.TheVariants as packet
 use Rattle.packet.specs.declared.packets.FormFault.{FormFault}
-use Rattle.orders.specs.Applied.{same_id_lem, target}
+use Rattle.orders.specs.Applied.{ids_agree, target}
 use Rattle.snapshot.specs.Listing.{lists, pairs_listed, orders_put}
 use Rattle.apply.specs.Said.{Said, new, modify, cancel, listing, blank, trade, volume, message_of}
 use Rattle.days.specs.declared.faults.PacketFault.{PacketFault}
@@ -23,7 +23,7 @@ use Rattle.days.specs.Model.{Rules}
 -- a filled id is i
 abbrev pub filled_as : Option OrderId → OrderId → Bool
 filled_as None i = false
-filled_as (Some j) i = same_id_lem j i
+filled_as (Some j) i = ids_agree j i
 
 -- what a Modify leaves last put: its price and the target's side with the id that it acts on, if it has a price
 abbrev pub with_price : Option Price → Bool → Option (Side × Price) → Option (Side × Price) → Option (Side × Price)
@@ -33,13 +33,13 @@ with_price (Some c) acts of-target own = cond acts (option_map (λ s. (s.0, c)) 
 module _ {T : Type 0} where
   -- the message is on pair p with active id i
   abbrev pub acts_on : Modify T → Pair → OrderId → Bool
-  acts_on x p i = same_pair x.pair p && same_id_lem x.active i
+  acts_on x p i = same_pair x.pair p && ids_agree x.active i
 
   -- New and Cancel name their id, Modify its filled ids, a snapshot every id of its pairs
   abbrev pub names : Said T → Pair → OrderId → Bool
   names (new o) p i = named p i o
-  names (modify x) p i = same_pair x.pair p && (same_id_lem x.active i || filled_as x.replaced i)
-  names (cancel x) p i = same_pair x.pair p && same_id_lem x.id i
+  names (modify x) p i = same_pair x.pair p && (ids_agree x.active i || filled_as x.replaced i)
+  names (cancel x) p i = same_pair x.pair p && ids_agree x.id i
   names (listing ms) p i = lists (pairs_listed ms) p
   names blank p i = false
   names trade p i = false

@@ -14,7 +14,7 @@ use Rattle.message.specs.declared.fault.MessageFault.TheVariants.{Unpriced}
 use Rattle.message.specs.declared.messages.Modify.{Modify}
 use Rattle.message.specs.declared.messages.Cancel.{Cancel}
 use Rattle.message.specs.Reading.{Reading, ◌▷◌, field, value_at, tail_at, sized}
-use Rattle.message.specs.Orders.{any_id_at, replaced_at_lem, new_of, amend_of, end_of, reprice_of, modify_of, cancel_of}
+use Rattle.message.specs.Orders.{any_id_at, replaced_offset, new_of, amend_of, end_of, reprice_of, modify_of, cancel_of}
 use Rattle.message.specs.Laid.{TailIs, NewRow, AmendRow, RepriceRow, ModifyRow, CancelRow}
 use Rattle.message.specs.Checks.{Tells, Never, LacksPrice, new_checks, amend_checks, end_checks, reprice_checks, cancel_checks, of_tail, of_any_id}
 use Rattle.message.specs.Laws.{Exact, One}
@@ -140,7 +140,7 @@ module _ {T : Type 0} (F : venue.Form T) (m : List ℕ) where
   -- a replaced id is filled only where there is a price, or that is its fault
   last_outcome : (long : length m ≡ 64 + F.width) (c : Pair) (i : OrderId) (v : Option Price) (a : Amount) (t : T) (j : Option OrderId)
       → PairIs (field 1 7 m) c → LabelIs 15 (field 8 15 m) i → OptionalIs 10 PriceIs (field 23 10 m) v → AmountIs (field 33 16 m) a → EndSays F.modify_tail_first t j → IdSays F.modify_tail_first j
-      → Outcome (LacksPrice F m) (RepriceRow F m) [] (cond (is_some j && not (is_some v)) (Err (Unpriced (replaced_at_lem F))) (Ok (record { pair = c; active = i; price = v; amount = a; replaced = j; terms = t })))
+      → Outcome (LacksPrice F m) (RepriceRow F m) [] (cond (is_some j && not (is_some v)) (Err (Unpriced (replaced_offset F))) (Ok (record { pair = c; active = i; price = v; amount = a; replaced = j; terms = t })))
   last_outcome long c i v a t None p q r s e d = record { long = long; pair = p; active = q; price = r; amount = s; end = e; filled = λ h. refl }
   last_outcome long c i (Some w) a t (Some j) p q r s e d = record { long = long; pair = p; active = q; price = r; amount = s; end = e; filled = λ h. let z : ◌≡◌ {A = ℕ} 0 1 = cc in absurd (omega arith) }
   last_outcome long c i None a t (Some j) p q r s e d = (refl, r, (j, d))

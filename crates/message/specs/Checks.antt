@@ -6,7 +6,7 @@ use Rattle.readers.specs.Values.{pair_of, label_of, price_of, amount_of, side_of
 use Rattle.venue.specs.Form as venue
 use Rattle.message.specs.declared.fault.MessageFault.TheVariants.{NoLetter, WrongLength, BadField, Unpriced, Miscounted, Repeated, Book}
 use Rattle.message.specs.Reading.{Reading, field}
-use Rattle.message.specs.Orders.{replaced_at_lem}
+use Rattle.message.specs.Orders.{replaced_offset}
 
 -- a field's offset, and whether it is in form
 pub record Check : Type 0 where
@@ -81,4 +81,4 @@ Never p = ⊥
 -- the price is blank, and the replaced id at p is filled
 abbrev pub LacksPrice : {T : Type 0} → venue.Form T → List ℕ → ℕ → Type 0
 LacksPrice F m p =
-    (p ≡ replaced_at_lem F) × OptionalIs 10 PriceIs (field 23 10 m) None × ((i : OrderId) × LabelIs 15 (field p 15 m) i)
+    (p ≡ replaced_offset F) × OptionalIs 10 PriceIs (field 23 10 m) None × ((i : OrderId) × LabelIs 15 (field p 15 m) i)

@@ -34,8 +34,8 @@ any_id_at m = value_at m 15 (optional_of 15 (label_of 15))
 
 module _ {T : Type 0} (F : venue.Form T) where
   -- where a priced Modify has its replaced id
-  abbrev pub replaced_at_lem : ℕ
-  replaced_at_lem = cond F.modify_tail_first (49 + F.width) 49
+  abbrev pub replaced_offset : ℕ
+  replaced_offset = cond F.modify_tail_first (49 + F.width) 49
 
   -- New: side, pair, id, price, amount, tail
   unfoldable pub new_of : List ℕ → Reading (Order T)
@@ -57,7 +57,7 @@ module _ {T : Type 0} (F : venue.Form T) where
   -- Modify with price: pair, active id, price or spaces, amount, and those two; a replaced id without price is its 24
   unfoldable pub reprice_of : List ℕ → Reading (Modify T)
   reprice_of m = sized m (64 + F.width) (pair_at m 1 ▷ λ pair. id_at m 8 ▷ λ active. any_price_at m 23 ▷ λ price. amount_at m 33 ▷ λ amount.
-      end_of m ▷ λ e. cond (is_some e.1 && not (is_some price)) (Err (Unpriced replaced_at_lem))
+      end_of m ▷ λ e. cond (is_some e.1 && not (is_some price)) (Err (Unpriced replaced_offset))
       (Ok (record { pair = pair; active = active; price = price; amount = amount; replaced = e.1; terms = e.0 })))
 
   -- Modify in the venue's form

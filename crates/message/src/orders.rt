@@ -1,6 +1,6 @@
 // The readers of the messages on one order.
 ghost use Rattle.std.specs.Prelude.{◌≡◌};
-ghost use Rattle.message.specs.Orders.{id_at, price_at, any_price_at, replaced_at_lem, new_of, amend_of, end_of, reprice_of, modify_of, cancel_of};
+ghost use Rattle.message.specs.Orders.{id_at, price_at, any_price_at, replaced_offset, new_of, amend_of, end_of, reprice_of, modify_of, cancel_of};
 
 use crate::fault::MessageFault;
 use crate::messages::{Cancel, Modify};
@@ -93,7 +93,7 @@ fn read_end<V: Venue>(m: &[u8]) -> Result<(V::Terms, Option<OrderId>), MessageFa
 
 // Where a Modify with price has its replaced id.
 pub fn replaced_at<V: Venue>() -> usize
-    ensures { result ≡ replaced_at_lem V.form }
+    ensures { result ≡ replaced_offset V.form }
 {
     if V::modify_tail_first() {
         AMOUNT_END + V::width()

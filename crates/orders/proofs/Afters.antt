@@ -17,7 +17,7 @@ use Rattle.message.specs.declared.fault.MessageFault.{MessageFault}
 use Rattle.message.specs.declared.fault.MessageFault.TheVariants.{Book}
 use Rattle.message.specs.declared.messages.Cancel.{Cancel}
 use Rattle.message.specs.declared.messages.Modify.{Modify}
-use Rattle.orders.specs.Applied.{After, Applies, refusal, new_at_lem, same_id_lem, new_after, cancel_after, target, target_at, taken, changed, modify_by, modify_after}
+use Rattle.orders.specs.Applied.{After, Applies, refusal, new_offset, ids_agree, new_after, cancel_after, target, target_at, taken, changed, modify_by, modify_after}
 use Rattle.orders.specs.Steps.{refused_at, Found, Freed, Done}
 
 -- what a refusal with an offset comes from
@@ -55,21 +55,21 @@ module _ {T : Type 0} where
     unfolding new_after
     new_ok u p = cond-false (stands o.pair o.id l) _ _ p.0 ∙ cond-false (leb capacity (length l)) _ _ (lt-leb capacity (length l) p.1) ∙ ap Ok (sym p.2)
 
-    new_err : (f : BookFault) → PlaceRefused capacity l o (number f) → new_after capacity l o ≡ Err (refusal f (new_at_lem f))
+    new_err : (f : BookFault) → PlaceRefused capacity l o (number f) → new_after capacity l o ≡ Err (refusal f (new_offset f))
     unfolding new_after
     new_err f p = ⊎_elim
-        (λ s. cond-true (stands o.pair o.id l) _ _ s.1 ∙ ap (λ k. Err (refusal k (new_at_lem k))) (sym (by_32 f s.0)))
+        (λ s. cond-true (stands o.pair o.id l) _ _ s.1 ∙ ap (λ k. Err (refusal k (new_offset k))) (sym (by_32 f s.0)))
         (λ s. let full : capacity ≤ length l = omega (arith, s.2) in
-        cond-false (stands o.pair o.id l) _ _ s.1 ∙ cond-true (leb capacity (length l)) _ _ (le-leb capacity (length l) full) ∙ ap (λ k. Err (refusal k (new_at_lem k))) (sym (by_33 f s.0)))
+        cond-false (stands o.pair o.id l) _ _ s.1 ∙ cond-true (leb capacity (length l)) _ _ (le-leb capacity (length l) full) ∙ ap (λ k. Err (refusal k (new_offset k))) (sym (by_33 f s.0)))
         p
 
     module _ (r : Result (Unit {0}) BookFault) (p : Place capacity l o r l') where
-      pub new_done : (u : Unit {0}) → Ok u ≡ refused_at new_at_lem r → new_after capacity l o ≡ Ok l'
-      new_done u h = new_ok u (subst (λ z. Place capacity l o z l') (answered new_at_lem r u h) p)
+      pub new_done : (u : Unit {0}) → Ok u ≡ refused_at new_offset r → new_after capacity l o ≡ Ok l'
+      new_done u h = new_ok u (subst (λ z. Place capacity l o z l') (answered new_offset r u h) p)
 
-      pub new_refused : (e : BookRefusal) → Err e ≡ refused_at new_at_lem r → (new_after capacity l o ≡ Err e) × (l' ≡ l)
+      pub new_refused : (e : BookRefusal) → Err e ≡ refused_at new_offset r → (new_after capacity l o ≡ Err e) × (l' ≡ l)
       new_refused e h =
-          let f = refused new_at_lem r e h in
+          let f = refused new_offset r e h in
           let q = subst (λ z. Place capacity l o z l') f.1 p in
           (new_err f.0 q.0 ∙ ap Err (sym f.2), q.1)
 
@@ -88,8 +88,8 @@ module _ {T : Type 0} where
         (cond-false (stands x.pair x.id l) _ _ q.1 ∙ ap (λ k. Err (refusal k 8)) (sym (by_31 f.0 q.0)) ∙ ap Err (sym f.2), q.2)
 
   -- what a removed target leaves has not the new id, unless another order had it
-  pub free_after : (p : Pair) (t i : OrderId) (l : List (Order T)) → (not (same_id_lem t i) && stands p i l) ≡ false → stands p i (without p t l) ≡ false
-  free_after p t i l h = (elim (same_id_lem t i) as (λ b. same_id_lem t i ≡ b → (not b && stands p i l) ≡ false → stands p i (without p t l) ≡ false) [
+  pub free_after : (p : Pair) (t i : OrderId) (l : List (Order T)) → (not (ids_agree t i) && stands p i l) ≡ false → stands p i (without p t l) ≡ false
+  free_after p t i l h = (elim (ids_agree t i) as (λ b. ids_agree t i ≡ b → (not b && stands p i l) ≡ false → stands p i (without p t l) ≡ false) [
     | true ↦ λ e k. ap (λ j. stands p j (without p t l)) (sym (label_same 15 t i (bytes_same t.bytes i.bytes e))) ∙ without_gone p t l
     | false ↦ λ e k. stands_others p t i e l ∙ k
   ]) refl h
@@ -108,9 +108,9 @@ module _ {T : Type 0} where
   pub found : (l : List (Order T)) (x : Modify T) (t : OrderId) (k : ℕ) → t ≡ target x → (r : Result (Order T) BookFault) → Found x.pair t l r → (o : Order T) → Ok o ≡ refused_at (λ _. k) r → lookup x.pair (target x) l ≡ Some o
   found l x t k is-target r p o h = ap (λ i. lookup x.pair i l) (sym is-target) ∙ subst (Found x.pair t l) (answered (λ _. k) r o h) p
 
-  pub other_taken : (l : List (Order T)) (x : Modify T) (t : OrderId) → t ≡ target x → false ≡ same_id_lem t x.active → taken l x ≡ stands x.pair x.active l
+  pub other_taken : (l : List (Order T)) (x : Modify T) (t : OrderId) → t ≡ target x → false ≡ ids_agree t x.active → taken l x ≡ stands x.pair x.active l
   other_taken l x t is-target n =
-      ap (λ i. not (same_id_lem i x.active) && stands x.pair x.active l) (sym is-target) ∙ ap (λ b. not b && stands x.pair x.active l) (sym n)
+      ap (λ i. not (ids_agree i x.active) && stands x.pair x.active l) (sym is-target) ∙ ap (λ b. not b && stands x.pair x.active l) (sym n)
 
   pub is_free : (l : List (Order T)) (x : Modify T) (r : Result (Unit {0}) BookFault) → Freed l x r → (u : Unit {0}) → Ok u ≡ refused_at (λ _. 8) r → taken l x ≡ false
   is_free l x r p u h = subst (Freed l x) (answered (λ _. 8) r u h) p

@@ -12,7 +12,7 @@ use Rattle.book.specs.Lookups.{alone, lookup_stands, lookup_named}
 use Rattle.venue.specs.Form as venue
 use Rattle.message.specs.declared.messages.Cancel.{Cancel}
 use Rattle.message.specs.declared.messages.Modify.{Modify}
-use Rattle.orders.specs.Applied.{After, same_id_lem, new_after, cancel_after, target, active_order_lem, taken, changed, modify_after}
+use Rattle.orders.specs.Applied.{After, ids_agree, new_after, cancel_after, target, order_of_active, taken, changed, modify_after}
 use Rattle.orders.specs.Laws.{StandsIn, Removed, NewSays, CancelSays, Free, AmendDone, ChangeDone, ModifySays}
 use Rattle.orders.proofs.Afters.{modify_none, modify_taken, modify_done}
 use Rattle.orders.proofs.Standings.{same_one, one_same, named_self, amend}
@@ -93,7 +93,7 @@ module _ {T : Type 0} where
     change_only : (v : Option Price) → length l' ≡ length l → ChangeDone l x v old l' → l' ≡ changed l x v old.side
     change_only None n d = amended_only x l l' n (amends d)
     change_only (Some price) n d =
-        let o = active_order_lem x price old.side in
+        let o = order_of_active x price old.side in
         placed_only o d.between l' d.put ∙ ap (placed o) (removed_only x.pair (target x) l old d.between h.distinct stood d.removed)
 
   free_not_taken : (l : List (Order T)) (x : Modify T) → Free l x → taken l x ≡ false
@@ -104,7 +104,7 @@ module _ {T : Type 0} where
 
   other_taken : (l : List (Order T)) (x : Modify T) → (x.active ≡ target x → ⊥) → StandsIn l x.pair x.active → taken l x ≡ true
   other_taken l x differ s =
-      let n : same_id_lem (target x) x.active ≡ false = ⊎_elim (λ e. absurd (differ (sym (same_one (target x) x.active e)))) (λ e. e) (split (same_id_lem (target x) x.active)) in
+      let n : ids_agree (target x) x.active ≡ false = ⊎_elim (λ e. absurd (differ (sym (same_one (target x) x.active e)))) (λ e. e) (split (ids_agree (target x) x.active)) in
       ap₂ (λ b c. not b && c) n (stands_some x.pair x.active l s)
 
   pub modify_only : (F : venue.Form T) (l : List (Order T)) (x : Modify T) → Ladder l → (a : After T) → ModifySays l F x a → a ≡ modify_after F l x

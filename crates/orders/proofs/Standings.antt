@@ -15,15 +15,15 @@ use Rattle.book.specs.Lookups.{alone, lookup_stands, lookup_none, lookup_named, 
 use Rattle.venue.specs.Form as venue
 use Rattle.message.specs.declared.messages.Cancel.{Cancel}
 use Rattle.message.specs.declared.messages.Modify.{Modify}
-use Rattle.orders.specs.Applied.{refusal, same_id_lem, new_after, cancel_after, target, target_at, active_order_lem, taken, changed, modify_by, modify_after}
+use Rattle.orders.specs.Applied.{refusal, ids_agree, new_after, cancel_after, target, target_at, order_of_active, taken, changed, modify_by, modify_after}
 use Rattle.orders.specs.Laws.{Other, StandsIn, Removed, NewSays, CancelSays, Free, AmendDone, RepriceDone, ChangeDone, ModifyDone, ModifySays}
 use Rattle.orders.proofs.Afters.{free_after}
 
 -- ids
-pub same_one : (i j : OrderId) → same_id_lem i j ≡ true → i ≡ j
+pub same_one : (i j : OrderId) → ids_agree i j ≡ true → i ≡ j
 same_one i j h = label_same 15 i j (bytes_same i.bytes j.bytes h)
 
-pub one_same : (i j : OrderId) → i ≡ j → same_id_lem i j ≡ true
+pub one_same : (i j : OrderId) → i ≡ j → ids_agree i j ≡ true
 one_same i j e = same_bytes i.bytes j.bytes (ap (λ k. k.bytes) e)
 
 other_apart : (q : Pair) (j : OrderId) (p : Pair) (i : OrderId) → Other q j p i → (same_pair q p && bytes_eq j.bytes i.bytes) ≡ false
@@ -134,7 +134,7 @@ module _ {T : Type 0} where
 
     module _ (price : Price) (free : stands x.pair x.active (without x.pair (target x) l) ≡ false) where
       abbrev put_order : Order T
-      put_order = active_order_lem x price old.side
+      put_order = order_of_active x price old.side
 
       abbrev left : List (Order T)
       left = without x.pair (target x) l
@@ -160,7 +160,7 @@ module _ {T : Type 0} where
       reprice_ladder = let w = without_ladder x.pair (target x) l h in record { sorted = placed_in_order put_order left w.sorted; distinct = placed_apart put_order left w.distinct free }
 
     is_free : taken l x ≡ false → Free l x
-    is_free t = (elim (same_id_lem (target x) x.active) as (λ b. same_id_lem (target x) x.active ≡ b → (not b && stands x.pair x.active l) ≡ false → Free l x) [
+    is_free t = (elim (ids_agree (target x) x.active) as (λ b. ids_agree (target x) x.active ≡ b → (not b && stands x.pair x.active l) ≡ false → Free l x) [
       | true ↦ λ e k. inl (sym (same_one (target x) x.active e))
       | false ↦ λ e k. inr (lookup_none x.pair x.active l k)
     ]) refl t

@@ -14,7 +14,7 @@ use Rattle.message.specs.declared.fault.MessageFault.{MessageFault}
 use Rattle.message.specs.declared.fault.MessageFault.TheVariants.{Book}
 use Rattle.message.specs.declared.messages.Cancel.{Cancel}
 use Rattle.message.specs.declared.messages.Modify.{Modify}
-use Rattle.message.specs.Orders.{replaced_at_lem}
+use Rattle.message.specs.Orders.{replaced_offset}
 
 -- the ladder after a message, or why the book refuses it and where the message names the order
 abbrev pub After : Type 0 → Type 0
@@ -23,14 +23,14 @@ After T = Result (List (Order T)) BookRefusal
 abbrev pub refusal : BookFault → ℕ → BookRefusal
 refusal f k = record { fault = f; at = k }
 
-abbrev pub same_id_lem : OrderId → OrderId → Bool
-same_id_lem i j = bytes_eq i.bytes j.bytes
+abbrev pub ids_agree : OrderId → OrderId → Bool
+ids_agree i j = bytes_eq i.bytes j.bytes
 
 -- New: 32 at its id, then 33 at the message's first byte
-abbrev pub new_at_lem : BookFault → ℕ
-new_at_lem NotStanding = 9
-new_at_lem Standing = 9
-new_at_lem Full = 0
+abbrev pub new_offset : BookFault → ℕ
+new_offset NotStanding = 9
+new_offset Standing = 9
+new_offset Full = 0
 
 unfoldable pub new_after : {T : Type 0} → ℕ → List (Order T) → Order T → After T
 new_after capacity l o =
@@ -47,21 +47,21 @@ target x = unwrap_or x.replaced x.active
 -- the offset of the field that names it
 abbrev pub target_at : {T U : Type 0} → venue.Form T → Option U → ℕ
 target_at F None = 8
-target_at F (Some _) = replaced_at_lem F
+target_at F (Some _) = replaced_offset F
 
 -- the order that a Modify with this price places, on the target's side
-abbrev pub active_order_lem : {T : Type 0} → Modify T → Price → Side → Order T
-active_order_lem x price side = record { pair = x.pair; side = side; id = x.active; price = price; amount = x.amount; terms = x.terms }
+abbrev pub order_of_active : {T : Type 0} → Modify T → Price → Side → Order T
+order_of_active x price side = record { pair = x.pair; side = side; id = x.active; price = price; amount = x.amount; terms = x.terms }
 
 module _ {T : Type 0} (l : List (Order T)) (x : Modify T) where
   -- the active id is not the target, and stands
   abbrev pub taken : Bool
-  taken = not (same_id_lem (target x) x.active) && stands x.pair x.active l
+  taken = not (ids_agree (target x) x.active) && stands x.pair x.active l
 
   -- without a price the target is amended where it stands; with one it is removed, and the active id is placed on its side
   abbrev pub changed : Option Price → Side → List (Order T)
   changed None side = amended x.pair (target x) x.amount x.terms l
-  changed (Some price) side = placed (active_order_lem x price side) (without x.pair (target x) l)
+  changed (Some price) side = placed (order_of_active x price side) (without x.pair (target x) l)
 
   abbrev pub modify_by : ℕ → Option (Order T) → After T
   modify_by k None = Err (refusal NotStanding k)

@@ -8,7 +8,7 @@ use Rattle.book.specs.Ladder.{OrderId, Ladder, lookup, at_rank, reset, Placed}
 use Rattle.venue.specs.Form as venue
 use Rattle.message.specs.declared.messages.Cancel.{Cancel}
 use Rattle.message.specs.declared.messages.Modify.{Modify}
-use Rattle.orders.specs.Applied.{After, refusal, new_after, cancel_after, target, target_at, active_order_lem, modify_after}
+use Rattle.orders.specs.Applied.{After, refusal, new_after, cancel_after, target, target_at, order_of_active, modify_after}
 
 -- another pair, or another id
 abbrev pub Other : Pair → OrderId → Pair → OrderId → Type 0
@@ -73,8 +73,8 @@ module _ {T : Type 0} (l : List (Order T)) where
     pub record RepriceDone (price : Price) (old : Order T) (l' : List (Order T)) : Type 0 where
       pub between : List (Order T)
       pub removed : Removed old l between
-      pub put : Placed (active_order_lem x price old.side) between l'
-      pub stands_then : lookup x.pair x.active l' ≡ Some (active_order_lem x price old.side)
+      pub put : Placed (order_of_active x price old.side) between l'
+      pub stands_then : lookup x.pair x.active l' ≡ Some (order_of_active x price old.side)
       pub gone : (x.active ≢ target x) → lookup x.pair (target x) l' ≡ None
       pub others : (q : Pair) (j : OrderId) → Other q j x.pair (target x) → Other q j x.pair x.active → lookup q j l' ≡ lookup q j l
 

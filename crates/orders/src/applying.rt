@@ -1,7 +1,7 @@
 // The messages on one order, applied to a book.
 ghost use Rattle.std.specs.Prelude.{◌≡◌, true, false};
 ghost use Rattle.book.specs.Ladder.{stands, without, placed};
-ghost use Rattle.orders.specs.Applied.{new_at_lem, new_after, cancel_after, target, changed, modify_after, Applies};
+ghost use Rattle.orders.specs.Applied.{new_offset, new_after, cancel_after, target, changed, modify_after, Applies};
 ghost use Rattle.orders.specs.Steps.{refused_at, Found, Freed, Done};
 
 use crate::naming;
@@ -22,7 +22,7 @@ fn at<A: Copy>(answer: Result<A, BookFault>, offset: usize) -> Result<A, BookRef
 
 // What the book answers to New, with the offset of its refusal.
 fn placing(answer: Result<(), BookFault>) -> Result<(), BookRefusal>
-    ensures { result ≡ refused_at new_at_lem answer }
+    ensures { result ≡ refused_at new_offset answer }
 {
     match answer {
         Ok(()) => Ok(()),

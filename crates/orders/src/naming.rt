@@ -1,7 +1,7 @@
 // Which order a message means, and where it names it.
 ghost use Rattle.std.specs.Prelude.{◌≡◌};
 ghost use Rattle.std.specs.Str.{bytes_eq};
-ghost use Rattle.orders.specs.Applied.{new_at_lem, same_id_lem, target, target_at, active_order_lem};
+ghost use Rattle.orders.specs.Applied.{new_offset, ids_agree, target, target_at, order_of_active};
 
 use book::{BookFault, Order, Side};
 use fields::{OrderId, Price};
@@ -10,7 +10,7 @@ use venue::Venue;
 
 // The offset that New's refusal has.
 pub(crate) fn new_at(fault: BookFault) -> usize
-    ensures { result ≡ new_at_lem fault }
+    ensures { result ≡ new_offset fault }
 {
     match fault {
         BookFault::NotStanding => 9,
@@ -38,7 +38,7 @@ pub(crate) fn target_at<V: Venue>(replaced: Option<OrderId>) -> usize
 
 // The order that a Modify with this price places.
 pub(crate) fn active_order<T: Copy>(change: &Modify<T>, price: Price, side: Side) -> Order<T>
-    ensures { result ≡ active_order_lem change.now price side }
+    ensures { result ≡ order_of_active change.now price side }
 {
     Order {
         pair: change.pair,
@@ -57,7 +57,7 @@ fn same_bytes(a: &[u8], b: &[u8]) -> bool
 }
 
 pub(crate) fn same_id(a: OrderId, b: OrderId) -> bool
-    ensures { result ≡ same_id_lem a b }
+    ensures { result ≡ ids_agree a b }
 {
     let left = a.bytes();
     let right = b.bytes();

@@ -1,5 +1,5 @@
 // The directory: a number of pairs, and so many pairs.
-ghost use Rattle.std.specs.Prelude.{◌≡◌, ℕ, ◌+◌, ◌*◌, ◌<◌, ◌≤◌, length, Decides, MatchOption};
+ghost use Rattle.std.specs.Prelude.{◌≡◌, ℕ, ◌+◌, ◌*◌, ◌^◌, ◌<◌, ◌≤◌, length, Decides, MatchOption};
 ghost use Rattle.fields.specs.Forms.{Paired};
 ghost use Rattle.packet.specs.Layouts.{field, size};
 ghost use Rattle.packet.specs.Verdict.{Matches};
@@ -34,6 +34,14 @@ fn first_bad_pair(body: &[u8], n: usize) -> Option<usize>
     None
 }
 
+// The fault of the pair number k.
+fn pair_fault(k: usize) -> FormFault
+    requires { 5 + 7 * k < 2 ^ 64 }
+    ensures { result ≡ FormFault.BadField (5 + 7 * k) }
+{
+    FormFault::BadField(5 + 7 * k)
+}
+
 // The length under 6 is tested first, then the number, then the length that it makes, then the pairs.
 pub(crate) fn directory(body: &[u8]) -> Result<Packet, FormFault>
     ensures { Matches 82 body.now result }
@@ -49,7 +57,7 @@ pub(crate) fn directory(body: &[u8]) -> Result<Packet, FormFault>
         return Err(FormFault::WrongLength);
     }
     match first_bad_pair(body, n) {
-        Some(k) => Err(FormFault::BadField(5 + 7 * k)),
+        Some(k) => Err(pair_fault(k)),
         None => Ok(Packet::Directory(pairs)),
     }
 }

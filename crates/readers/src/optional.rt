@@ -14,7 +14,7 @@ fn is_blank(bytes: &[u8], width: usize) -> bool
     bytes.len() == width && digits::spaces(bytes, 0)
 }
 
-// AllByRecursion spaces say that there is no value.
+// All spaces say that there is no value.
 impl<F: Filled> Field for Option<F> {
     ghost wide = { F.Field.wide };
 

@@ -10,18 +10,18 @@ use Rattle.replay.specs.declared.events.Event.{Event}
 use Rattle.replay.specs.declared.events.Event.TheVariants.{Letter, End, Directory as Pairs, Message}
 
 -- the packet's letter or the end, the number of pairs of a directory, the first byte of a message
-abbrev pub event_of_lem : Packet → List ℕ → Event
-event_of_lem (LoginAccepted n) bs = Letter 65
-event_of_lem LoginRejected bs = Letter 74
-event_of_lem EndOfSession bs = End
-event_of_lem (Sequenced t) bs = Message (slice_index bs 10)
-event_of_lem Heartbeat bs = Letter 72
-event_of_lem ErrorNotification bs = Letter 69
-event_of_lem (Directory n) bs = Pairs n.value
+abbrev pub packet_event : Packet → List ℕ → Event
+packet_event (LoginAccepted n) bs = Letter 65
+packet_event LoginRejected bs = Letter 74
+packet_event EndOfSession bs = End
+packet_event (Sequenced t) bs = Message (slice_index bs 10)
+packet_event Heartbeat bs = Letter 72
+packet_event ErrorNotification bs = Letter 69
+packet_event (Directory n) bs = Pairs n.value
 
 -- the event of the packet that the bytes lay out, or the first check that fails; no bytes are those of a packet too long to be held
 abbrev pub Reported : Option (List ℕ) → Result Event FormFault → Type 0
 Reported None (Ok e) = ⊥
 Reported None (Err f) = f ≡ TooLong
-Reported (Some bs) (Ok e) = (p : Packet) × LaidOut bs p × (e ≡ event_of_lem p bs)
+Reported (Some bs) (Ok e) = (p : Packet) × LaidOut bs p × (e ≡ packet_event p bs)
 Reported (Some bs) (Err f) = Faulty bs f

@@ -1,7 +1,7 @@
 // What the log says of a packet.
 ghost use Rattle.std.specs.Prelude.{◌≡◌, Some, slice_index};
 ghost use Rattle.replay.specs.Cutting.{last};
-ghost use Rattle.replay.specs.Events.{event_of_lem, Reported};
+ghost use Rattle.replay.specs.Events.{packet_event, Reported};
 
 use crate::cutter::Cutter;
 use packet::{FormFault, Packet};
@@ -65,7 +65,7 @@ fn message_letter(body: &[u8]) -> char
 
 // The event of a packet in form.
 fn event_of(packet: Packet, body: &[u8]) -> Event
-    ensures { result ≡ event_of_lem packet body.now }
+    ensures { result ≡ packet_event packet body.now }
 {
     match packet {
         Packet::LoginAccepted(_) => Event::Letter('A'),

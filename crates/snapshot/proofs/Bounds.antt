@@ -16,7 +16,7 @@ use Rattle.message.specs.declared.fault.MessageFault.TheVariants.{Miscounted}
 use Rattle.snapshot.specs.declared.mark.Mark.{Mark}
 use Rattle.snapshot.specs.declared.mark.Mark.TheVariants.{Lists, Puts}
 use Rattle.snapshot.specs.Scanning.{Scan, ◌▸◌, ◌⨟◌, field_at, tail_then, times}
-use Rattle.snapshot.specs.Snapshot.{order_at, level_at, side_at, pair_at, pairs_at_lem, snapshot_of}
+use Rattle.snapshot.specs.Snapshot.{order_at, level_at, side_at, pair_at, pairs_from, snapshot_of}
 use Rattle.snapshot.specs.Repeats.{place_of}
 use Rattle.snapshot.specs.Listing.{pairs_listed}
 use Rattle.snapshot.proofs.Walks.{no, field_inside, tail_inside}
@@ -115,16 +115,16 @@ module _ {T : Type 0} (F : venue.Form T) (m : List ℕ) (ms : List (Mark T)) (e 
           whole = sym (ap (λ t. t.1) same) ∙ eqb-true n (length m) w.0;
         }
 
-    by_pairs : Bound (pairs_at_lem F m p) Closing ms e → Parts F m ms e
-    unfolding pairs_at_lem
+    by_pairs : Bound (pairs_from F m p) Closing ms e → Parts F m ms e
+    unfolding pairs_from
     by_pairs x = by_count x.value x.next (when (eqb x.next (length m)) _ _ ms e x.then) (bound (field_at m 4 (integer_of 4) p) _ x.value x.next x.read)
 
-    by_right : (pairs_at_lem F m p ▸ Closing) ≡ Ok (ms, e) → Parts F m ms e
-    by_right h = by_pairs (bound (pairs_at_lem F m p) Closing ms e h)
+    by_right : (pairs_from F m p ▸ Closing) ≡ Ok (ms, e) → Parts F m ms e
+    by_right h = by_pairs (bound (pairs_from F m p) Closing ms e h)
 
-  by_size : Bound (field_at m 6 (integer_of 6) 1) (λ k p. cond (eqb k.value (length m - p)) (pairs_at_lem F m p ▸ Closing) (Err (Miscounted 1))) ms e → Parts F m ms e
+  by_size : Bound (field_at m 6 (integer_of 6) 1) (λ k p. cond (eqb k.value (length m - p)) (pairs_from F m p ▸ Closing) (Err (Miscounted 1))) ms e → Parts F m ms e
   by_size x =
-      let w = when (eqb x.value.value (length m - x.next)) (pairs_at_lem F m x.next ▸ Closing) (Miscounted 1) ms e x.then in
+      let w = when (eqb x.value.value (length m - x.next)) (pairs_from F m x.next ▸ Closing) (Miscounted 1) ms e x.then in
       by_right x.value x.next x.read w.0 w.1
 
   pub snapshot_parts : snapshot_of F m ≡ Ok (ms, e) → Parts F m ms e

@@ -24,8 +24,8 @@ use Rattle.snapshot.specs.declared.mark.Mark.TheVariants.{Lists, Puts}
 use Rattle.snapshot.specs.declared.skim.Skim.{Skim}
 use Rattle.snapshot.specs.declared.skim.Skim.TheVariants.{Met, Past, Next}
 use Rattle.snapshot.specs.Scanning.{Scan, ◌▸◌, ◌⨟◌, field_at, tail_then, times}
-use Rattle.snapshot.specs.Snapshot.{order_of_lem, order_at, level_at, side_at, pair_at, pairs_at_lem, snapshot_of}
-use Rattle.snapshot.specs.Skims.{among, puts_id, lists_pair, met, listed, Says, Skims, Ends, PutsId, ListsPair, id_place_lem, order_size_lem, count_or0, count_in, strided, sides_at}
+use Rattle.snapshot.specs.Snapshot.{whole_order, order_at, level_at, side_at, pair_at, pairs_from, snapshot_of}
+use Rattle.snapshot.specs.Skims.{among, puts_id, lists_pair, met, listed, Says, Skims, Ends, PutsId, ListsPair, id_offset, order_width, count_or0, count_in, strided, sides_at}
 
 or_false : (b : Bool) → (b || false) ≡ b
 or_false true = refl
@@ -168,19 +168,19 @@ module _ {T : Type 0} (t : Mark T → Bool) where
 -- An order: one mark, with the bytes at the id's place.
 record OrderRead {T : Type 0} (F : venue.Form T) (m : List ℕ) (p : ℕ) (ms : List (Mark T)) (e : ℕ) : Type 0 where
   order : Order T
-  marks : ms ≡ Puts (p + id_place_lem F) order ∷ []
-  named : order.id.bytes ≡ field (p + id_place_lem F) 15 m
-  end : e ≡ p + order_size_lem F
+  marks : ms ≡ Puts (p + id_offset F) order ∷ []
+  named : order.id.bytes ≡ field (p + id_offset F) 15 m
+  end : e ≡ p + order_width F
   within : e ≤ length m
 
 module _ {T : Type 0} (F : venue.Form T) (m : List ℕ) (c : Pair) (s : Side) (v : Price) where
-  order_made : (p : ℕ) (ms : List (Mark T)) (e : ℕ) (a : Amount) (i : OrderId) (t : T) (r d : ℕ) → r ≡ p + id_place_lem F → label_of 15 (field r 15 m) ≡ Some i → d ≡ p + order_size_lem F → d ≤ length m → ◌≡◌ {A = Scan (List (Mark T))} (Ok (Puts r (order_of_lem c s v a i t) ∷ [], d)) (Ok (ms, e)) → OrderRead F m p ms e
+  order_made : (p : ℕ) (ms : List (Mark T)) (e : ℕ) (a : Amount) (i : OrderId) (t : T) (r d : ℕ) → r ≡ p + id_offset F → label_of 15 (field r 15 m) ≡ Some i → d ≡ p + order_width F → d ≤ length m → ◌≡◌ {A = Scan (List (Mark T))} (Ok (Puts r (whole_order c s v a i t) ∷ [], d)) (Ok (ms, e)) → OrderRead F m p ms e
   order_made p ms e a i t r d at-id id end within h =
-      let same : ◌≡◌ {A = List (Mark T) × ℕ} (Puts r (order_of_lem c s v a i t) ∷ [], d) (ms, e) = cc in
+      let same : ◌≡◌ {A = List (Mark T) × ℕ} (Puts r (whole_order c s v a i t) ∷ [], d) (ms, e) = cc in
       let ends : d ≡ e = ap (λ (z : List (Mark T) × ℕ). z.1) same in
       record {
-        order = order_of_lem c s v a i t;
-        marks = sym (ap (λ (z : List (Mark T) × ℕ). z.0) same) ∙ ap (λ k. Puts k (order_of_lem c s v a i t) ∷ []) at-id;
+        order = whole_order c s v a i t;
+        marks = sym (ap (λ (z : List (Mark T) × ℕ). z.0) same) ∙ ap (λ k. Puts k (whole_order c s v a i t) ∷ []) at-id;
         named = ((label_law 15).sound (field r 15 m) i id).1 ∙ ap (λ k. field k 15 m) at-id;
         end = sym ends ∙ end;
         within = omega arith;
@@ -194,8 +194,8 @@ module _ {T : Type 0} (F : venue.Form T) (m : List ℕ) (c : Pair) (s : Side) (v
       by i.0 i.1 a.end F.order_tail_first refl i.3
     where
       by : (a : Amount) (q : ℕ) → q ≡ p + 16 → (b : Bool) → F.order_tail_first ≡ b → cond b
-          (tail_then F m q ▸ λ t r. field_at m 15 (label_of 15) r ▸ λ i e. Ok (Puts r (order_of_lem c s v a i t) ∷ [], e))
-          (field_at m 15 (label_of 15) q ▸ λ i r. tail_then F m r ▸ λ t e. Ok (Puts q (order_of_lem c s v a i t) ∷ [], e)) ≡ Ok (ms, e) → OrderRead F m p ms e
+          (tail_then F m q ▸ λ t r. field_at m 15 (label_of 15) r ▸ λ i e. Ok (Puts r (whole_order c s v a i t) ∷ [], e))
+          (field_at m 15 (label_of 15) q ▸ λ i r. tail_then F m r ▸ λ t e. Ok (Puts q (whole_order c s v a i t) ∷ [], e)) ≡ Ok (ms, e) → OrderRead F m p ms e
       by a q at true first h =
           let x = then_inv (tail_then F m q) _ (ms, e) h in
           let y = then_inv (field_at m 15 (label_of 15) x.1) _ (ms, e) x.3 in
@@ -213,9 +213,9 @@ module _ {T : Type 0} (F : venue.Form T) (m : List ℕ) (c : Pair) (s : Side) (v
 
 -- Orders, one after another.
 record OrdersRead {T : Type 0} (F : venue.Form T) (m : List ℕ) (n p : ℕ) (ms : List (Mark T)) (e : ℕ) : Type 0 where
-  strides : (upto : ℕ) (id : List ℕ) → met upto id ms ≡ strided m upto id (order_size_lem F) n (p + id_place_lem F)
+  strides : (upto : ℕ) (id : List ℕ) → met upto id ms ≡ strided m upto id (order_width F) n (p + id_offset F)
   unlisted : (upto : ℕ) (pair : List ℕ) → listed upto pair ms ≡ false
-  end : e ≡ p + n * order_size_lem F
+  end : e ≡ p + n * order_width F
   within : p ≤ length m → e ≤ length m
 
 module _ {T : Type 0} (F : venue.Form T) (m : List ℕ) (c : Pair) (s : Side) (v : Price) where
@@ -228,41 +228,41 @@ module _ {T : Type 0} (F : venue.Form T) (m : List ℕ) (c : Pair) (s : Side) (v
       record {
         strides = λ upto id. ap (met upto id) none;
         unlisted = λ upto pair. ap (listed upto pair) none;
-        end = omega (arith, zero-mul (order_size_lem F));
+        end = omega (arith, zero-mul (order_width F));
         within = λ l. omega arith;
       }
   orders_inv (suc n) p ms e h =
       let j = seq_inv (order_at F m c s v p) (times (order_at F m c s v) n) ms e h in
       let o = order_inv F m c s v p j.xs j.mid j.first in
       let rest = orders_inv n j.mid j.ys e j.then in
-      let all : ms ≡ Puts (p + id_place_lem F) o.order ∷ j.ys = j.both ∙ ap (λ xs. xs ++ j.ys) o.marks in
-      let further : j.mid + id_place_lem F ≡ (p + id_place_lem F) + order_size_lem F = omega (arith, o.end) in
+      let all : ms ≡ Puts (p + id_offset F) o.order ∷ j.ys = j.both ∙ ap (λ xs. xs ++ j.ys) o.marks in
+      let further : j.mid + id_offset F ≡ (p + id_offset F) + order_width F = omega (arith, o.end) in
       record {
         strides = λ upto id.
             ap (met upto id) all
-            ∙ ap (λ bs. (ltb (p + id_place_lem F) upto && bytes_eq bs id) || met upto id j.ys) o.named
-            ∙ ap (λ b. (ltb (p + id_place_lem F) upto && bytes_eq (field (p + id_place_lem F) 15 m) id) || b) (rest.strides upto id ∙ ap (strided m upto id (order_size_lem F) n) further);
+            ∙ ap (λ bs. (ltb (p + id_offset F) upto && bytes_eq bs id) || met upto id j.ys) o.named
+            ∙ ap (λ b. (ltb (p + id_offset F) upto && bytes_eq (field (p + id_offset F) 15 m) id) || b) (rest.strides upto id ∙ ap (strided m upto id (order_width F) n) further);
         unlisted = λ upto pair. ap (listed upto pair) all ∙ rest.unlisted upto pair;
-        end = omega (arith, o.end, rest.end, suc-mul n (order_size_lem F));
+        end = omega (arith, o.end, rest.end, suc-mul n (order_width F));
         within = λ l. rest.within o.within;
       }
 
 -- A level: its orders stand behind a price and their number.
 pub record LevelRead {T : Type 0} (F : venue.Form T) (m : List ℕ) (p : ℕ) (ms : List (Mark T)) (e : ℕ) : Type 0 where
-  pub strides : (upto : ℕ) (id : List ℕ) → met upto id ms ≡ strided m upto id (order_size_lem F) (count_in m (p + 10)) (p + (14 + id_place_lem F))
+  pub strides : (upto : ℕ) (id : List ℕ) → met upto id ms ≡ strided m upto id (order_width F) (count_in m (p + 10)) (p + (14 + id_offset F))
   pub unlisted : (upto : ℕ) (pair : List ℕ) → listed upto pair ms ≡ false
-  pub room : p + (14 + id_place_lem F) ≤ length m
-  pub end : e ≡ p + (14 + count_in m (p + 10) * order_size_lem F)
+  pub room : p + (14 + id_offset F) ≤ length m
+  pub end : e ≡ p + (14 + count_in m (p + 10) * order_width F)
   pub within : e ≤ length m
 
 module _ {T : Type 0} (F : venue.Form T) (m : List ℕ) (c : Pair) (s : Side) where
-  inside_order : (b : Bool) → 16 + cond b F.width 0 ≤ order_size_lem F
+  inside_order : (b : Bool) → 16 + cond b F.width 0 ≤ order_width F
   inside_order true = omega arith
   inside_order false = omega arith
 
-  one_inside : (k : ℕ) → (k ≡ 0 → ⊥) → id_place_lem F ≤ k * order_size_lem F
+  one_inside : (k : ℕ) → (k ≡ 0 → ⊥) → id_offset F ≤ k * order_width F
   one_inside zero h = absurd (h refl)
-  one_inside (suc k) h = omega (arith, inside_order F.order_tail_first, suc-mul k (order_size_lem F))
+  one_inside (suc k) h = omega (arith, inside_order F.order_tail_first, suc-mul k (order_width F))
 
   level_inv : (p : ℕ) (ms : List (Mark T)) (e : ℕ) → level_at F m c s p ≡ Ok (ms, e) → LevelRead F m p ms e
   unfolding level_at
@@ -279,12 +279,12 @@ module _ {T : Type 0} (F : venue.Form T) (m : List ℕ) (c : Pair) (s : Side) wh
       by v q k r at count false some h =
           let o = orders_inv F m c s v k.value r ms e h in
           let n : k.value ≡ count_in m (p + 10) = counted m q k r count ∙ ap (count_in m) at in
-          let start : r + id_place_lem F ≡ p + (14 + id_place_lem F) = omega (arith, count.end) in
-          let size : k.value * order_size_lem F ≡ count_in m (p + 10) * order_size_lem F = ap (λ j. j * order_size_lem F) n in
+          let start : r + id_offset F ≡ p + (14 + id_offset F) = omega (arith, count.end) in
+          let size : k.value * order_width F ≡ count_in m (p + 10) * order_width F = ap (λ j. j * order_width F) n in
           let first = one_inside k.value (eqb-false k.value 0 some) in
           let inside = o.within count.within in
           record {
-            strides = λ upto id. o.strides upto id ∙ ap (λ j. strided m upto id (order_size_lem F) j (r + id_place_lem F)) n ∙ ap (strided m upto id (order_size_lem F) (count_in m (p + 10))) start;
+            strides = λ upto id. o.strides upto id ∙ ap (λ j. strided m upto id (order_width F) j (r + id_offset F)) n ∙ ap (strided m upto id (order_width F) (count_in m (p + 10))) start;
             unlisted = o.unlisted;
             room = omega (arith, first, inside, o.end, count.end);
             end = omega (arith, o.end, count.end, size);
@@ -294,7 +294,7 @@ module _ {T : Type 0} (F : venue.Form T) (m : List ℕ) (c : Pair) (s : Side) wh
   pub level_unmet : (upto : ℕ) (id : List ℕ) → Void (puts_id upto id) upto (level_at F m c s)
   level_unmet upto id p ms e l h =
       let r = level_inv p ms e h in
-      (r.strides upto id ∙ strided_past m upto id (order_size_lem F) (count_in m (p + 10)) (p + (14 + id_place_lem F)) (omega arith), omega (arith, r.end))
+      (r.strides upto id ∙ strided_past m upto id (order_width F) (count_in m (p + 10)) (p + (14 + id_offset F)) (omega arith), omega (arith, r.end))
 
   pub level_unlisted : (low upto : ℕ) (pair : List ℕ) → Void (lists_pair upto pair) low (level_at F m c s)
   level_unlisted low upto pair p ms e l h = let r = level_inv p ms e h in (r.unlisted upto pair, omega (arith, r.end))
@@ -336,7 +336,7 @@ module _ {T : Type 0} (F : venue.Form T) (m : List ℕ) (upto : ℕ) (id : List 
     levels_past n at h = record { says = λ ms e k. times_void (puts_id upto id) upto (level_at F m c s) (level_unmet F m c s upto id) n at ms e h k }
 
     -- the level at `at`, as the code goes over it
-    module _ (place size : ℕ) (place_is : place ≡ id_place_lem F) (size_is : size ≡ order_size_lem F) (n at q k r : ℕ) (some : 0 < n)
+    module _ (place size : ℕ) (place_is : place ≡ id_offset F) (size_is : size ≡ order_width F) (n at q k r : ℕ) (some : 0 < n)
         (q-is : at + 10 ≤ length m → q ≡ at + 10) (k-is : k ≡ count_in m q) (r-is : at + (14 + place) ≤ length m → r ≡ at + (14 + place)) where
       record First (ms : List (Mark T)) (e : ℕ) : Type 0 where
         parts : Joined (level_at F m c s at) (times (level_at F m c s) (n - 1)) ms e
@@ -349,11 +349,11 @@ module _ {T : Type 0} (F : venue.Form T) (m : List ℕ) (upto : ℕ) (id : List 
           let j = times_inv (level_at F m c s) n at ms e some h in
           let l = level_inv F m c s at j.xs j.mid j.first in
           let count : count_in m (at + 10) ≡ k = sym (k-is ∙ ap (count_in m) (q-is (omega (arith, l.room)))) in
-          let start : at + (14 + id_place_lem F) ≡ r = ap (λ i. at + (14 + i)) (sym place_is) ∙ sym (r-is (omega (arith, l.room))) in
+          let start : at + (14 + id_offset F) ≡ r = ap (λ i. at + (14 + i)) (sym place_is) ∙ sym (r-is (omega (arith, l.room))) in
           record {
             parts = j;
-            here = l.strides upto id ∙ ap (λ i. strided m upto id i (count_in m (at + 10)) (at + (14 + id_place_lem F))) (sym size_is) ∙ ap (λ i. strided m upto id size i (at + (14 + id_place_lem F))) count ∙ ap (strided m upto id size k) start;
-            end = l.end ∙ ap (λ i. at + (14 + i * order_size_lem F)) count ∙ ap (λ i. at + (14 + k * i)) (sym size_is);
+            here = l.strides upto id ∙ ap (λ i. strided m upto id i (count_in m (at + 10)) (at + (14 + id_offset F))) (sym size_is) ∙ ap (λ i. strided m upto id size i (at + (14 + id_offset F))) count ∙ ap (strided m upto id size k) start;
+            end = l.end ∙ ap (λ i. at + (14 + i * order_width F)) count ∙ ap (λ i. at + (14 + k * i)) (sym size_is);
             within = l.within;
           }
 
@@ -422,11 +422,11 @@ module _ {T : Type 0} (F : venue.Form T) (m : List ℕ) (c : Pair) (s : Side) wh
         ap (λ (z : List (Mark T) × ℕ). z.1) same;
   }
 
-  pub ends_next : (size : ℕ) → size ≡ order_size_lem F → (n at q k next r : ℕ) → 0 < n → (at + 10 ≤ length m → q ≡ at + 10) → k ≡ count_in m q
+  pub ends_next : (size : ℕ) → size ≡ order_width F → (n at q k next r : ℕ) → 0 < n → (at + 10 ≤ length m → q ≡ at + 10) → k ≡ count_in m q
       → (at + (14 + k * size) ≤ length m → next ≡ at + (14 + k * size)) → Ends (times (level_at F m c s) (n - 1) next) r → Ends (times (level_at F m c s) n at) r
   ends_next size size_is n at q k next r some q-is k-is next-is rest = record {
     end = λ ms e j.
-        let f = levels_first F m 0 [] c s (id_place_lem F) size refl size_is n at q k (at + (14 + id_place_lem F)) some q-is k-is (λ _. refl) ms e j in
+        let f = levels_first F m 0 [] c s (id_offset F) size refl size_is n at q k (at + (14 + id_offset F)) some q-is k-is (λ _. refl) ms e j in
         let at_next : next ≡ f.parts.mid = next-is (omega (arith, f.end, f.within)) ∙ sym f.end in
         rest.end f.parts.ys e (ap (times (level_at F m c s) (n - 1)) at_next ∙ f.parts.then);
   }
@@ -476,8 +476,8 @@ module _ {T : Type 0} (F : venue.Form T) (m : List ℕ) where
   }
 
   -- the pairs stand behind the byte count and their number
-  pairs_inv : (p : ℕ) (ms : List (Mark T)) (e : ℕ) → pairs_at_lem F m p ≡ Ok (ms, e) → times (pair_at F m) (count_in m p) (p + 4) ≡ Ok (ms, e)
-  unfolding pairs_at_lem
+  pairs_inv : (p : ℕ) (ms : List (Mark T)) (e : ℕ) → pairs_from F m p ≡ Ok (ms, e) → times (pair_at F m) (count_in m p) (p + 4) ≡ Ok (ms, e)
+  unfolding pairs_from
   pairs_inv p ms e h =
       let i = then_inv (field_at m 4 (integer_of 4) p) _ (ms, e) h in
       let count = field_inv m 4 (integer_of 4) p i.0 i.1 i.2 in
@@ -492,8 +492,8 @@ module _ {T : Type 0} (F : venue.Form T) (m : List ℕ) where
   snapshot_inv ms e h =
       let i = then_inv (field_at m 6 (integer_of 6) 1) _ (ms, e) h in
       let size = field_inv m 6 (integer_of 6) 1 i.0 i.1 i.2 in
-      let j = then_inv (pairs_at_lem F m i.1) _ (ms, e) (guarded (eqb i.0.value (length m - i.1)) _ _ (ms, e) i.3) in
-      pairs_inv 7 ms e (ap (pairs_at_lem F m) (sym size.end) ∙ j.2 ∙ guarded (eqb j.1 (length m)) _ _ (ms, e) j.3)
+      let j = then_inv (pairs_from F m i.1) _ (ms, e) (guarded (eqb i.0.value (length m - i.1)) _ _ (ms, e) i.3) in
+      pairs_inv 7 ms e (ap (pairs_from F m) (sym size.end) ∙ j.2 ∙ guarded (eqb j.1 (length m)) _ _ (ms, e) j.3)
 
   module _ (upto : ℕ) (pair : List ℕ) where
     -- only its first mark lists a pair

@@ -16,14 +16,14 @@ use Rattle.message.specs.Reading.{value_at}
 use Rattle.snapshot.specs.declared.mark.Mark.{Mark}
 use Rattle.snapshot.specs.declared.mark.Mark.TheVariants.{Lists, Puts}
 use Rattle.snapshot.specs.Scanning.{Scan, ◌▸◌, ◌⨟◌, field_at, tail_then}
-use Rattle.snapshot.specs.Snapshot.{order_of_lem, count_at_lem, order_at, level_at, side_at, pair_at, pairs_at_lem, snapshot_of}
+use Rattle.snapshot.specs.Snapshot.{whole_order, count_read, order_at, level_at, side_at, pair_at, pairs_from, snapshot_of}
 use Rattle.snapshot.specs.Laid.{Here, PairsLaid, CountedLaid}
 use Rattle.snapshot.specs.Faults.{Located, Part, in_form, no_bytes, ◌⟫◌, count, order_part, level_part, side_part, pair_part, pairs_part, Sized, CountedStops, at_size, at_number, at_pairs, at_end}
 use Rattle.snapshot.proofs.Exact.{then_inv, after}
 use Rattle.snapshot.proofs.Stopping.{Follows, stop_inv, follows_from, follows_then, follows_done, follows_here, follows_field, follows_tail, follows_both, follows_times, follows_choice, follows_some}
 
 module _ (R : ReaderLaws) {T : Type 0} (F : venue.Form T) (m : List ℕ) where
-  follows_count : Follows m (count_at_lem F m) count
+  follows_count : Follows m (count_read F m) count
   follows_count = follows_field m (R.integer 4)
 
   -- the id, with the offset where it begins, and what is put there
@@ -35,9 +35,9 @@ module _ (R : ReaderLaws) {T : Type 0} (F : venue.Form T) (m : List ℕ) where
   pub follows_order : (c : Pair) (s : Side) (v : Price) → Follows m (order_at F m c s v) (order_part F c s v)
   unfolding order_at
   follows_order c s v = follows_then m _ _ _ _ (follows_field m R.amount) (λ _ a. follows_choice m F.order_tail_first _ _ _ _
-      (follows_then m _ _ _ _ (follows_tail m F) (λ _ t. follows_id _ _ (λ at i. follows_done m (Puts at (order_of_lem c s v a i t) ∷ []))))
-      (follows_id (λ at i r. tail_then F m r ▸ λ t e. Ok (Puts at (order_of_lem c s v a i t) ∷ [], e)) _
-      (λ at i. follows_then m _ _ _ _ (follows_tail m F) (λ _ t. follows_done m (Puts at (order_of_lem c s v a i t) ∷ [])))))
+      (follows_then m _ _ _ _ (follows_tail m F) (λ _ t. follows_id _ _ (λ at i. follows_done m (Puts at (whole_order c s v a i t) ∷ []))))
+      (follows_id (λ at i r. tail_then F m r ▸ λ t e. Ok (Puts at (whole_order c s v a i t) ∷ [], e)) _
+      (λ at i. follows_then m _ _ _ _ (follows_tail m F) (λ _ t. follows_done m (Puts at (whole_order c s v a i t) ∷ [])))))
 
   pub follows_level : (c : Pair) (s : Side) → Follows m (level_at F m c s) (level_part F c s)
   unfolding level_at
@@ -54,8 +54,8 @@ module _ (R : ReaderLaws) {T : Type 0} (F : venue.Form T) (m : List ℕ) where
       (λ at. follows_then m _ _ _ _ (follows_field m R.pair) (λ _ c. follows_both m _ _ _ _ (follows_done m (Lists at c ∷ []))
       (follows_both m _ _ _ _ (follows_side c Bid) (follows_side c Offer))))
 
-  pub follows_pairs : Follows m (pairs_at_lem F m) (pairs_part F)
-  unfolding pairs_at_lem
+  pub follows_pairs : Follows m (pairs_from F m) (pairs_part F)
+  unfolding pairs_from
   follows_pairs = follows_then m _ _ _ _ follows_count (λ _ k. follows_times m _ _ follows_pair k.value)
 
 tested : {A : Type 0} (b : Bool) (x : Scan A) (f : MessageFault) (y : A × ℕ) → cond b x (Err f) ≡ Ok y → (b ≡ true) × (x ≡ Ok y)
@@ -127,14 +127,14 @@ module _ (R : ReaderLaws) {T : Type 0} (F : venue.Form T) (m : List ℕ) where
 
   -- the number of bytes was read
   abbrev behind : Integer 6 → ℕ → Scan (List (Mark T))
-  behind k p = cond (eqb k.value (length m - p)) (pairs_at_lem F m p ▸ to_end) (Err (Miscounted 1))
+  behind k p = cond (eqb k.value (length m - p)) (pairs_from F m p ▸ to_end) (Err (Miscounted 1))
 
   resized : (k : ℕ) (body : List ℕ) → eqb k (length m - 7) ≡ true → drop 7 m ≡ body → Sized m k (drop 7 m) → Sized m (length body) body
   resized k body h e s = subst (λ n. Sized m n body) (eqb-true k (length m - 7) h ∙ sym (length-drop 7 m) ∙ ap length e) (subst (Sized m k) e s)
 
-  pairs_sound : (ms : List (Mark T)) (e : ℕ) → pairs_at_lem F m 7 ▸ to_end ≡ Ok (ms, e) → PairsLaid F 7 (drop 7 m) ms × (e ≡ length m)
+  pairs_sound : (ms : List (Mark T)) (e : ℕ) → pairs_from F m 7 ▸ to_end ≡ Ok (ms, e) → PairsLaid F 7 (drop 7 m) ms × (e ≡ length m)
   pairs_sound ms e h =
-      let j = then_inv (pairs_at_lem F m 7) to_end (ms, e) h in
+      let j = then_inv (pairs_from F m 7) to_end (ms, e) h in
       let u = tested (eqb j.1 (length m)) (Ok (j.0, j.1)) (Miscounted j.1) (ms, e) j.3 in
       let same : ◌≡◌ {A = List (Mark T) × ℕ} (j.0, j.1) (ms, e) = cc in
       let k = (follows_pairs R F m).exact.sound 7 j.0 j.1 j.2 in
@@ -147,7 +147,7 @@ module _ (R : ReaderLaws) {T : Type 0} (F : venue.Form T) (m : List ℕ) where
 
   behind_sound : (k : Integer 6) (ms : List (Mark T)) (e : ℕ) → Sized m k.value (drop 7 m) → behind k 7 ≡ Ok (ms, e) → CountedLaid F m ms × (e ≡ length m)
   behind_sound k ms e s h =
-      let t = tested (eqb k.value (length m - 7)) (pairs_at_lem F m 7 ▸ to_end) (Miscounted 1) (ms, e) h in
+      let t = tested (eqb k.value (length m - 7)) (pairs_from F m 7 ▸ to_end) (Miscounted 1) (ms, e) h in
       let z = resized k.value (drop 7 m) t.0 refl s in
       let l = pairs_sound ms e t.1 in
       (record { letter = z.letter; size = z.size; body = drop 7 m; count = z.count; parts = z.parts; counted = z.counted; agrees = z.value; listed = l.0 }, l.1)
@@ -160,12 +160,12 @@ module _ (R : ReaderLaws) {T : Type 0} (F : venue.Form T) (m : List ℕ) where
       behind_sound i.0 ms e r.2 (ap (behind i.0) (sym r.0) ∙ i.3)
 
   -- what is read where the number of bytes is right
-  agreed : (body : List ℕ) → Sized m (length body) body → snapshot_of F m ≡ pairs_at_lem F m 7 ▸ to_end
+  agreed : (body : List ℕ) → Sized m (length body) body → snapshot_of F m ≡ pairs_from F m 7 ▸ to_end
   unfolding snapshot_of
   agreed body s =
       let r = sized_read R m (length body) body s in
       let right : s.count.value ≡ length m - 7 = omega (arith, s.value, r.2) in
-      ap (λ x. x ▸ behind) r.0 ∙ ap (λ b. cond b (pairs_at_lem F m 7 ▸ to_end) (Err (Miscounted 1))) (eq-eqb s.count.value (length m - 7) right)
+      ap (λ x. x ▸ behind) r.0 ∙ ap (λ b. cond b (pairs_from F m 7 ▸ to_end) (Err (Miscounted 1))) (eq-eqb s.count.value (length m - 7) right)
 
   pub counted_complete : (ms : List (Mark T)) → CountedLaid F m ms → snapshot_of F m ≡ Ok (ms, length m)
   counted_complete ms l =
@@ -183,7 +183,7 @@ module _ (R : ReaderLaws) {T : Type 0} (F : venue.Form T) (m : List ℕ) where
       let same : ◌≡◌ {A = List (Mark T) × ℕ} (ms, length m) (ns, length m) = cc in
       ap (λ (x : List (Mark T) × ℕ). x.0) same
 
-  end_stops : (ms : List (Mark T)) (e : ℕ) (f : MessageFault) → Sized m (length (drop 7 m)) (drop 7 m) → 7 ≤ length m → pairs_at_lem F m 7 ≡ Ok (ms, e) → to_end ms e ≡ Err f → CountedStops F m f
+  end_stops : (ms : List (Mark T)) (e : ℕ) (f : MessageFault) → Sized m (length (drop 7 m)) (drop 7 m) → 7 ≤ length m → pairs_from F m 7 ≡ Ok (ms, e) → to_end ms e ≡ Err f → CountedStops F m f
   end_stops ms e f s o h t =
       let g = (follows_pairs R F m).exact.sound 7 ms e h in
       ⊎_elim
@@ -200,9 +200,9 @@ module _ (R : ReaderLaws) {T : Type 0} (F : venue.Form T) (m : List ℕ) where
       ⊎_elim
       (λ e. at_pairs (drop 7 m) f z ((follows_pairs R F m).stopped 7 f o e))
       (λ i. end_stops i.0 i.1 f z o i.2 i.3)
-      (stop_inv (pairs_at_lem F m 7) to_end f x.1))
+      (stop_inv (pairs_from F m 7) to_end f x.1))
       (λ x. subst (CountedStops F m) (sym x.1) (at_number k.value (drop 7 m) s (λ e. eqb-false k.value (length m - 7) x.0 (e ∙ length-drop 7 m))))
-      (refused (eqb k.value (length m - 7)) (pairs_at_lem F m 7 ▸ to_end) (Miscounted 1) f h)
+      (refused (eqb k.value (length m - 7)) (pairs_from F m 7 ▸ to_end) (Miscounted 1) f h)
 
   -- what is refused stops so
   pub counted_stopped : (f : MessageFault) → snapshot_of F m ≡ Err f → CountedStops F m f
@@ -214,7 +214,7 @@ module _ (R : ReaderLaws) {T : Type 0} (F : venue.Form T) (m : List ℕ) where
       behind_stops i.0 f r.2 r.1 (ap (behind i.0) (sym r.0) ∙ i.3))
       (stop_inv (size_read R m) behind f h)
 
-  pairs_stopping : (body : List ℕ) (f : MessageFault) → Sized m (length body) body → (pairs_part F).stops 7 body f → pairs_at_lem F m 7 ≡ Err f
+  pairs_stopping : (body : List ℕ) (f : MessageFault) → Sized m (length body) body → (pairs_part F).stops 7 body f → pairs_from F m 7 ≡ Err f
   pairs_stopping body f s t =
       let r = sized_read R m (length body) body s in
       (follows_pairs R F m).stopping 7 f (omega (arith, r.2)) (subst (λ b. (pairs_part F).stops 7 b f) (sym r.1) t)
@@ -226,7 +226,7 @@ module _ (R : ReaderLaws) {T : Type 0} (F : venue.Form T) (m : List ℕ) where
   counted_stopping _ (at_number k body s n) =
       let r = sized_read R m k body s in
       let wrong : s.count.value ≡ length m - 7 → ⊥ = λ e. n (omega (arith, e, s.value, r.2)) in
-      ap (λ x. x ▸ behind) r.0 ∙ ap (λ b. cond b (pairs_at_lem F m 7 ▸ to_end) (Err (Miscounted 1))) (ne_eqb s.count.value (length m - 7) wrong)
+      ap (λ x. x ▸ behind) r.0 ∙ ap (λ b. cond b (pairs_from F m 7 ▸ to_end) (Err (Miscounted 1))) (ne_eqb s.count.value (length m - 7) wrong)
   counted_stopping f (at_pairs body _ s t) = agreed body s ∙ ap (λ x. x ▸ to_end) (pairs_stopping body f s t)
   counted_stopping _ (at_end b c ms s l some) =
       let r = sized_read R m (length (b ++ c)) (b ++ c) s in

@@ -17,7 +17,7 @@ use Rattle.message.specs.declared.fault.MessageFault.TheVariants.{Miscounted}
 use Rattle.snapshot.specs.declared.mark.Mark.{Mark}
 use Rattle.snapshot.specs.declared.mark.Mark.TheVariants.{Lists, Puts}
 use Rattle.snapshot.specs.Scanning.{Scan, ◌▸◌, ◌⨟◌, field_at, tail_then, times}
-use Rattle.snapshot.specs.Snapshot.{order_of_lem, order_at, level_at, side_at, pair_at, pairs_at_lem, snapshot_of}
+use Rattle.snapshot.specs.Snapshot.{whole_order, order_at, level_at, side_at, pair_at, pairs_from, snapshot_of}
 use Rattle.snapshot.specs.Named.{named_at}
 use Rattle.snapshot.specs.Walked.{Runs, Walked, ends}
 
@@ -169,7 +169,7 @@ module _ {T : Type 0} (F : venue.Form T) (m : List ℕ) where
     -- an order is its amount, and then its id and terms
     module _ (v : Price) where
       abbrev Put : Amount → ℕ × OrderId × T → ℕ → Marks
-      Put a x e = Ok (Puts x.0 (order_of_lem c s v a x.1 x.2) ∷ [], e)
+      Put a x e = Ok (Puts x.0 (whole_order c s v a x.1 x.2) ∷ [], e)
 
       order_named : (p : ℕ) → order_at F m c s v p ≡ (field_at m 16 amount_of p ▸ λ a q. named_at F m q ▸ Put a)
       unfolding order_at named_at
@@ -203,7 +203,7 @@ module _ {T : Type 0} (F : venue.Form T) (m : List ℕ) where
           by (Ok x) = by_order x.0 x.1 F.order_tail_first
           by (Err y) = refl
 
-      pub order_read : (p : ℕ) {a : Amount} {q : ℕ} {x : ℕ × OrderId × T} {e : ℕ} → field_at m 16 amount_of p ≡ Ok (a, q) → named_at F m q ≡ Ok (x, e) → order_at F m c s v p ≡ Ok (Puts x.0 (order_of_lem c s v a x.1 x.2) ∷ [], e)
+      pub order_read : (p : ℕ) {a : Amount} {q : ℕ} {x : ℕ × OrderId × T} {e : ℕ} → field_at m 16 amount_of p ≡ Ok (a, q) → named_at F m q ≡ Ok (x, e) → order_at F m c s v p ≡ Ok (Puts x.0 (whole_order c s v a x.1 x.2) ∷ [], e)
       order_read p a b = order_named p ∙ rw (a, b)
 
       pub order_unsized : (p : ℕ) {y : MessageFault} → field_at m 16 amount_of p ≡ Err y → order_at F m c s v p ≡ Err y
@@ -244,12 +244,12 @@ module _ {T : Type 0} (F : venue.Form T) (m : List ℕ) where
   unfolding pair_at
   pair_fault p a = rw a
 
-  pub pairs_read : (p : ℕ) {k : Integer 4} {q : ℕ} → field_at m 4 (integer_of 4) p ≡ Ok (k, q) → pairs_at_lem F m p ≡ times (pair_at F m) k.value q
-  unfolding pairs_at_lem
+  pub pairs_read : (p : ℕ) {k : Integer 4} {q : ℕ} → field_at m 4 (integer_of 4) p ≡ Ok (k, q) → pairs_from F m p ≡ times (pair_at F m) k.value q
+  unfolding pairs_from
   pairs_read p a = rw a
 
-  pub pairs_fault : (p : ℕ) {y : MessageFault} → field_at m 4 (integer_of 4) p ≡ Err y → pairs_at_lem F m p ≡ Err y
-  unfolding pairs_at_lem
+  pub pairs_fault : (p : ℕ) {y : MessageFault} → field_at m 4 (integer_of 4) p ≡ Err y → pairs_from F m p ≡ Err y
+  unfolding pairs_from
   pairs_fault p a = rw a
 
   -- behind the byte count
@@ -262,26 +262,26 @@ module _ {T : Type 0} (F : venue.Form T) (m : List ℕ) where
       abbrev Closed : Marks → Marks
       Closed x = x ▸ λ ms e. cond (eqb e (length m)) (Ok (ms, e)) (Err (Miscounted e))
 
-      size_right : snapshot_of F m ≡ Closed (pairs_at_lem F m p)
+      size_right : snapshot_of F m ≡ Closed (pairs_from F m p)
       unfolding snapshot_of
       size_right = rw (sized, right)
 
-      pub snapshot_stop : {y : MessageFault} → ends (pairs_at_lem F m p) ≡ Err y → snapshot_of F m ≡ Err y
-      snapshot_stop {y} b = size_right ∙ by (pairs_at_lem F m p) b
+      pub snapshot_stop : {y : MessageFault} → ends (pairs_from F m p) ≡ Err y → snapshot_of F m ≡ Err y
+      snapshot_stop {y} b = size_right ∙ by (pairs_from F m p) b
         where
           by : (x : Marks) → ends x ≡ Err y → Closed x ≡ Err y
           by (Ok v) h = no h
           by (Err w) h = let z : w ≡ y = cc in ap Err z
 
-      pub snapshot_left : {e : ℕ} → ends (pairs_at_lem F m p) ≡ Ok e → eqb e (length m) ≡ false → snapshot_of F m ≡ Err (Miscounted e)
-      snapshot_left {e} b d = size_right ∙ by (pairs_at_lem F m p) b
+      pub snapshot_left : {e : ℕ} → ends (pairs_from F m p) ≡ Ok e → eqb e (length m) ≡ false → snapshot_of F m ≡ Err (Miscounted e)
+      snapshot_left {e} b d = size_right ∙ by (pairs_from F m p) b
         where
           by : (x : Marks) → ends x ≡ Ok e → Closed x ≡ Err (Miscounted e)
           by (Ok v) h = let z : v.1 ≡ e = cc in ap (λ n. cond (eqb n (length m)) (Ok (v.0, n)) (Err (Miscounted n))) z ∙ ap (λ b. cond b (Ok (v.0, e)) (Err (Miscounted e))) d
           by (Err w) h = no (sym h)
 
-      pub snapshot_whole : {e : ℕ} → ends (pairs_at_lem F m p) ≡ Ok e → eqb e (length m) ≡ true → snapshot_of F m ≡ pairs_at_lem F m p
-      snapshot_whole {e} b d = size_right ∙ by (pairs_at_lem F m p) b
+      pub snapshot_whole : {e : ℕ} → ends (pairs_from F m p) ≡ Ok e → eqb e (length m) ≡ true → snapshot_of F m ≡ pairs_from F m p
+      snapshot_whole {e} b d = size_right ∙ by (pairs_from F m p) b
         where
           by : (x : Marks) → ends x ≡ Ok e → Closed x ≡ x
           by (Ok v) h = let z : v.1 ≡ e = cc in ap (λ b. cond b (Ok (v.0, v.1)) (Err (Miscounted v.1))) (ap (λ n. eqb n (length m)) z ∙ d)

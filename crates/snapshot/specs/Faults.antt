@@ -11,7 +11,7 @@ use Rattle.message.specs.declared.fault.MessageFault.{MessageFault}
 use Rattle.message.specs.declared.fault.MessageFault.TheVariants.{BadField, Miscounted}
 use Rattle.snapshot.specs.declared.mark.Mark.{Mark}
 use Rattle.snapshot.specs.declared.mark.Mark.TheVariants.{Lists, Puts}
-use Rattle.snapshot.specs.Snapshot.{order_of_lem}
+use Rattle.snapshot.specs.Snapshot.{whole_order}
 use Rattle.snapshot.specs.Laid.{Layout, Field, Tail, ◌⨾◌, Here, Done, Rows, PairsLaid}
 
 infixr 20 ◌⟫◌
@@ -90,8 +90,8 @@ some Q = record {
 module _ {T : Type 0} (F : venue.Form T) where
   abbrev pub order_part : Pair → Side → Price → Part (List (Mark T))
   order_part c s v = in_form 16 AmountIs ⟫ λ a. choice F.order_tail_first
-      (in_tail F ⟫ λ t. no_bytes Here ⟫ λ at. in_form 15 (LabelIs 15) ⟫ λ i. no_bytes (Done (Puts at (order_of_lem c s v a i t) ∷ [])))
-      (no_bytes Here ⟫ λ at. in_form 15 (LabelIs 15) ⟫ λ i. in_tail F ⟫ λ t. no_bytes (Done (Puts at (order_of_lem c s v a i t) ∷ [])))
+      (in_tail F ⟫ λ t. no_bytes Here ⟫ λ at. in_form 15 (LabelIs 15) ⟫ λ i. no_bytes (Done (Puts at (whole_order c s v a i t) ∷ [])))
+      (no_bytes Here ⟫ λ at. in_form 15 (LabelIs 15) ⟫ λ i. in_tail F ⟫ λ t. no_bytes (Done (Puts at (whole_order c s v a i t) ∷ [])))
 
   abbrev pub level_part : Pair → Side → Part (List (Mark T))
   level_part c s = in_form 10 PriceIs ⟫ λ v. some (λ k. rows (order_part c s v) k)

@@ -9,7 +9,7 @@ use Rattle.readers.specs.Values.{PairIs, LabelIs, PriceIs, AmountIs, IntegerIs}
 use Rattle.venue.specs.Form as venue
 use Rattle.snapshot.specs.declared.mark.Mark.{Mark}
 use Rattle.snapshot.specs.declared.mark.Mark.TheVariants.{Lists, Puts}
-use Rattle.snapshot.specs.Snapshot.{order_of_lem}
+use Rattle.snapshot.specs.Snapshot.{whole_order}
 
 infixr 20 ◌⨾◌
 infixr 20 ◌⧺◌
@@ -53,8 +53,8 @@ module _ {T : Type 0} (F : venue.Form T) where
   -- amount, id and tail, the last two in the venue's order
   abbrev pub OrderLaid : Pair → Side → Price → Layout (List (Mark T))
   OrderLaid c s v = Field AmountIs ⨾ λ a p bs ms. MatchBool F.order_tail_first
-      ((Tail F ⨾ λ t. Here ⨾ λ at. Field (LabelIs 15) ⨾ λ i. Done (Puts at (order_of_lem c s v a i t) ∷ [])) p bs ms)
-      ((Here ⨾ λ at. Field (LabelIs 15) ⨾ λ i. Tail F ⨾ λ t. Done (Puts at (order_of_lem c s v a i t) ∷ [])) p bs ms)
+      ((Tail F ⨾ λ t. Here ⨾ λ at. Field (LabelIs 15) ⨾ λ i. Done (Puts at (whole_order c s v a i t) ∷ [])) p bs ms)
+      ((Here ⨾ λ at. Field (LabelIs 15) ⨾ λ i. Tail F ⨾ λ t. Done (Puts at (whole_order c s v a i t) ∷ [])) p bs ms)
 
   -- a price, the number of its orders, at least 1, and the orders
   abbrev pub LevelLaid : Pair → Side → Layout (List (Mark T))

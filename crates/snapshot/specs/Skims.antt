@@ -62,11 +62,11 @@ module _ {T : Type 0} where
     pub found : (ms : List (Mark T)) (e : ℕ) → x ≡ Ok (ms, e) → r ≡ met upto id ms
 
 -- the offset of the id in an order, and the bytes of an order
-abbrev pub id_place_lem : {T : Type 0} → venue.Form T → ℕ
-id_place_lem F = 16 + cond F.order_tail_first F.width 0
+abbrev pub id_offset : {T : Type 0} → venue.Form T → ℕ
+id_offset F = 16 + cond F.order_tail_first F.width 0
 
-abbrev pub order_size_lem : {T : Type 0} → venue.Form T → ℕ
-order_size_lem F = 31 + F.width
+abbrev pub order_width : {T : Type 0} → venue.Form T → ℕ
+order_width F = 31 + F.width
 
 abbrev pub count_or0 : Reading (Integer 4) → ℕ
 count_or0 (Ok k) = k.value

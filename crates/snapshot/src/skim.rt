@@ -5,7 +5,7 @@ ghost use Rattle.message.specs.Reading.{field};
 ghost use Rattle.fields.specs.declared.values.Pair.{Pair};
 ghost use Rattle.book.specs.declared.order.Side.{Side};
 ghost use Rattle.snapshot.specs.Scanning.{times};
-ghost use Rattle.snapshot.specs.Skims.{Skims, Ends, PutsId, ListsPair, id_place_lem, order_size_lem, count_in, strided, sides_at};
+ghost use Rattle.snapshot.specs.Skims.{Skims, Ends, PutsId, ListsPair, id_offset, order_width, count_in, strided, sides_at};
 ghost use Rattle.snapshot.specs.Snapshot.{level_at, side_at, pair_at, snapshot_of};
 
 use fields::Integer;
@@ -38,7 +38,7 @@ fn same_at(m: &[u8], at: usize, bytes: &[u8]) -> bool
 
 // The offset of the id in an order.
 fn id_place<V: Venue>() -> usize
-    ensures { result ≡ id_place_lem V.form }
+    ensures { result ≡ id_offset V.form }
 {
     if V::order_tail_first() {
         16 + V::width()
@@ -49,7 +49,7 @@ fn id_place<V: Venue>() -> usize
 
 // The bytes of an order.
 fn order_size<V: Venue>() -> usize
-    ensures { result ≡ order_size_lem V.form }
+    ensures { result ≡ order_width V.form }
 {
     31 + V::width()
 }

@@ -2,7 +2,7 @@
 ghost use Rattle.std.specs.Prelude.{◌≡◌};
 ghost use Rattle.snapshot.specs.Named.{named_at};
 ghost use Rattle.snapshot.specs.Scanning.{field_at, tail_then, times};
-ghost use Rattle.snapshot.specs.Snapshot.{order_at, level_at, side_at, pair_at, pairs_at_lem, snapshot_of};
+ghost use Rattle.snapshot.specs.Snapshot.{order_at, level_at, side_at, pair_at, pairs_from, snapshot_of};
 ghost use Rattle.snapshot.specs.Walked.{Walked};
 
 use crate::mark::Mark;
@@ -178,7 +178,7 @@ fn all_pairs<V: Venue, S, K: Task<V::Terms, S>>(
     state: &mut S,
     at: usize,
 ) -> Result<usize, MessageFault>
-    ensures { Walked (K.steps m.now) (pairs_at_lem V.form m.now at) state.old result state.new }
+    ensures { Walked (K.steps m.now) (pairs_from V.form m.now at) state.old result state.new }
 {
     let (count, pairs_at) = next::<Integer<4>>(m, at)?;
     pairs::<V, S, K>(m, state, pairs_at, count.value())

@@ -7,7 +7,7 @@ use Rattle.readers.specs.Values.{label_of, quantity_of}
 use Rattle.readers.specs.Lawful.{label_law, quantity_law}
 use Rattle.venue.specs.Form.{Form}
 use Rattle.venue.specs.Basic.{basic_form}
-use Rattle.venue.specs.Full.{full_form, full_reads, limits, quantity_at_lem}
+use Rattle.venue.specs.Full.{full_form, full_reads, limits, quantity_from}
 use Rattle.venue.specs.Link.{link_form, link_reads, made_by}
 use Rattle.venue.specs.Tails.{BasicTail, FullTail, LinkTail, TailLaw, NoQuantity, FullRefusals, VenueLaws}
 use Rattle.venue.specs.declared.terms.Limits.{Limits}
@@ -94,7 +94,7 @@ full_wide bs t h = omega (arith, length-drop 16 bs, quantity_law.long _ t.lot h.
 
 full_sound : (bs : List ℕ) (t : Limits) → length bs ≡ 32 → full_reads bs ≡ Ok t → FullTail bs t
 full_sound bs t l e =
-    let r = limits_are (quantity_at_lem 0 bs) (quantity_at_lem 16 bs) t e in
+    let r = limits_are (quantity_from 0 bs) (quantity_from 16 bs) t e in
     (quantity_law.sound _ t.min r.0, quantity_law.sound _ t.lot (ap quantity_of (sym (last_field bs l)) ∙ r.1))
 
 full_complete : (bs : List ℕ) (t : Limits) → FullTail bs t → full_reads bs ≡ Ok t
@@ -114,10 +114,10 @@ full_law = record {
 
 full_refusals : FullRefusals
 full_refusals = record {
-  at_min = λ bs l e. none_is (take 16 bs) (limits_0 (quantity_at_lem 0 bs) (quantity_at_lem 16 bs) e);
-  min_at = λ bs l h. ap (λ min. limits min (quantity_at_lem 16 bs)) (is_none (take 16 bs) h);
+  at_min = λ bs l e. none_is (take 16 bs) (limits_0 (quantity_from 0 bs) (quantity_from 16 bs) e);
+  min_at = λ bs l h. ap (λ min. limits min (quantity_from 16 bs)) (is_none (take 16 bs) h);
   at_lot = λ bs l e.
-      let r = limits_16 (quantity_at_lem 0 bs) (quantity_at_lem 16 bs) e in
+      let r = limits_16 (quantity_from 0 bs) (quantity_from 16 bs) e in
       ((r.0.0, quantity_law.sound _ _ r.0.1), none_is (drop 16 bs) (ap quantity_of (sym (last_field bs l)) ∙ r.1));
   lot_at = λ bs q l h n.
       ap₂ limits (quantity_law.complete _ q h) (ap quantity_of (last_field bs l) ∙ is_none (drop 16 bs) n);

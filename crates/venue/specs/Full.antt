@@ -13,8 +13,8 @@ use Rattle.venue.specs.Form.{Form}
 use Rattle.venue.specs.declared.terms.Limits.{Limits}
 
 -- the quantity in the sixteen bytes at an offset
-abbrev pub quantity_at_lem : ℕ → List ℕ → Option Quantity
-quantity_at_lem at bs = quantity_of (take 16 (drop at bs))
+abbrev pub quantity_from : ℕ → List ℕ → Option Quantity
+quantity_from at bs = quantity_of (take 16 (drop at bs))
 
 -- the first field that is not in form is refused
 abbrev pub limits : Option Quantity → Option Quantity → Result Limits ℕ
@@ -23,7 +23,7 @@ limits (Some min) None = Err 16
 limits (Some min) (Some lot) = Ok (record { min = min; lot = lot })
 
 abbrev pub full_reads : List ℕ → Result Limits ℕ
-full_reads bs = limits (quantity_at_lem 0 bs) (quantity_at_lem 16 bs)
+full_reads bs = limits (quantity_from 0 bs) (quantity_from 16 bs)
 
 abbrev pub full_writes : Limits → List ℕ
 full_writes t = quantity_text t.min.count ++ quantity_text t.lot.count
@@ -34,7 +34,7 @@ limits_inside (Some min) None k e = let z : 16 ≡ k = cc in omega arith
 limits_inside (Some min) (Some lot) k e = let z : ◌≡◌ {A = ℕ} 0 1 = cc in absurd (omega arith)
 
 pub full_inside : (bs : List ℕ) (k : ℕ) → length bs ≡ 32 → full_reads bs ≡ Err k → k < 32
-full_inside bs k l e = limits_inside (quantity_at_lem 0 bs) (quantity_at_lem 16 bs) k e
+full_inside bs k l e = limits_inside (quantity_from 0 bs) (quantity_from 16 bs) k e
 
 pub text_long : (q : Quantity) → length (quantity_text q.count) ≡ 16
 text_long q = quantity_codec.long _ _ (quantity_codec.back q)

@@ -2,7 +2,7 @@
 ghost use Rattle.std.specs.Prelude.{◌≡◌, ◌+◌, ◌≤◌, ◌++◌, Decides};
 ghost use Rattle.fields.specs.Calls.{Writes};
 ghost use Rattle.fields.specs.Fields.{quantity_text};
-ghost use Rattle.venue.specs.Full.{full_form, limits, quantity_at_lem};
+ghost use Rattle.venue.specs.Full.{full_form, limits, quantity_from};
 
 use crate::kind::Venue;
 use crate::terms::Limits;
@@ -17,7 +17,7 @@ const LOT: usize = 16;
 // The quantity at `at` of a tail.
 fn quantity_at(tail: &[u8], at: usize) -> Option<Quantity>
     requires { at ≤ 16 }
-    ensures { result ≡ quantity_at_lem at tail.now }
+    ensures { result ≡ quantity_from at tail.now }
 {
     if tail.len() < at + WIDTH {
         return None;

@@ -3,7 +3,7 @@ use Rattle.fields.specs.Forms.{paired, labelled}
 use Rattle.fields.specs.Ranges.{PriceCount, AmountCount}
 use Rattle.fields.proofs.Tests.{paired_decides, labelled_decides}
 use Rattle.fields.proofs.Sames.{pair_same, label_same, price_same, amount_same}
-use Rattle.book.specs.Rows.{order_of_lem, Formed}
+use Rattle.book.specs.Rows.{whole_order, Formed}
 use Rattle.book.specs.Packing.{same_order}
 use Rattle.book.proofs.rows.order_of.Goals as goal
 
@@ -33,5 +33,5 @@ returns g c =
       price = subst PriceCount price-is price.ok;
       amount = subst AmountCount amount-is amount.ok;
     } in
-    let o = order_of_lem g.T.Terms.given c.args.row.now f in
+    let o = whole_order g.T.Terms.given c.args.row.now f in
     (f, same_order _ o (pair_same pair o.pair pair_is) refl (label_same 15 id o.id id-is) (price_same price o.price price-is) (amount_same amount o.amount amount-is) c.from_row-terms.ensures)
