@@ -3,7 +3,7 @@ use Rattle.std.proofs.Common.{◌≡◌, ℕ, zero, suc, ◌+◌, ◌<◌, ◌�
 use Rattle.std.specs.List.{AllByRecursion}
 use Rattle.std.proofs.lemmas.Bool.Decides.{nat_tests}
 use Rattle.std.proofs.lemmas.Bool.{both_ways, and_parts, and_left, not-true, or_parts, or_from, cases_Bool}
-use Rattle.fields.specs.declared.values.Pair.{Pair}
+use Rattle.fields.specs.Values.{Pair}
 use Rattle.fields.proofs.Sames.{pair_same}
 use Rattle.book.specs.declared.order.Order.{Order}
 use Rattle.book.specs.Ladder.{OrderId, Ladder, same_pair, named, stands, apart, lookup, at_rank, placed, placed_all, cleared}

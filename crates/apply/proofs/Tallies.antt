@@ -1,6 +1,6 @@
 -- What the tasks have after a run over the marks.
 use Rattle.std.proofs.Common.{◌≡◌, ℕ, ◌+◌, ◌^◌, ◌<◌, Bool, true, false, ◌||◌, List, [], ◌∷◌, length, Some, Ok, Err, Option, sym, refl, ap, ◌∙◌, subst, ap₂, arith}
-use Rattle.fields.specs.declared.values.Pair.{Pair}
+use Rattle.fields.specs.Values.{Pair}
 use Rattle.fields.proofs.Sames.{pair_same}
 use Rattle.book.specs.Ladder.{same_pair}
 use Rattle.book.specs.Orderly.{bytes_same}

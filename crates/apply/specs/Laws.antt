@@ -1,6 +1,6 @@
 -- What a snapshot does, said of the orders that stand before and after.
 use Rattle.std.specs.Prelude.{◌≡◌, ℕ, ◌<◌, ◌≤◌, true, false, List, length, Ok, Err}
-use Rattle.fields.specs.declared.values.Pair.{Pair}
+use Rattle.fields.specs.Values.{Pair}
 use Rattle.book.specs.declared.order.Order.{Order}
 use Rattle.book.specs.declared.ladder.BookFault.TheVariants.{Full}
 use Rattle.book.specs.Ladder.{OrderId, Ladder, lookup}

@@ -1,7 +1,7 @@
 -- What the walks over a snapshot find and do, mark by mark.
 use Rattle.std.specs.Prelude.{◌≡◌, ℕ, ◌+◌, ◌^◌, ◌<◌, Bool, true, false, not, List, length, Some, None, Ok, Err, Option, Result}
 use Rattle.std.specs.List.{AllByRecursion}
-use Rattle.fields.specs.declared.values.Pair.{Pair}
+use Rattle.fields.specs.Values.{Pair}
 use Rattle.book.specs.declared.order.Order.{Order}
 use Rattle.book.specs.Ladder.{same_pair, stands, placed, cleared}
 use Rattle.venue.specs.Form as venue

@@ -2,10 +2,7 @@
 use Rattle.std.specs.Prelude.{◌≡◌, ℕ, zero, suc, Bool, true, false, cond, not, ◌&&◌, ◌||◌, ◌⊎◌, List, [], ◌∷◌, ◌++◌, Some, None, Option, ◌==◌}
 use Rattle.std.specs.Str.{bytes_eq}
 use Rattle.std.specs.List.{AllByRecursion, list_all}
-use Rattle.fields.specs.declared.values.Pair.{Pair}
-use Rattle.fields.specs.declared.values.Label.{Label}
-use Rattle.fields.specs.declared.values.Price.{Price}
-use Rattle.fields.specs.declared.values.Amount.{Amount}
+use Rattle.fields.specs.Values.{Pair, Label, Price, Amount}
 use Rattle.book.specs.Sides.{before, sides_agree, leads, AsGood}
 use Rattle.book.specs.declared.order.Side.{Side}
 use Rattle.book.specs.declared.order.Side.TheVariants.{Bid, Offer}

@@ -8,8 +8,7 @@ use Rattle.std.proofs.lemmas.Bool.Decides.{nat_tests}
 use Rattle.book.specs.Ladder.{OrderId, ahead, named, at_level, in_order, apart, stands, placed, without, placed_all, at_rank, reset, amended, Placed}
 use Rattle.book.specs.Calls.{Finds}
 use Rattle.std.specs.Str.{bytes_eq}
-use Rattle.fields.specs.declared.values.Pair.{Pair}
-use Rattle.fields.specs.declared.values.Amount.{Amount}
+use Rattle.fields.specs.Values.{Pair, Amount}
 use Rattle.book.specs.declared.order.Order.{Order}
 use Rattle.book.specs.Orderly.{ahead_total, ahead_trans, level_both, named_sym, split, bytes_same, same_bytes}
 

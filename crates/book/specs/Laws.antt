@@ -3,8 +3,7 @@ use Rattle.std.specs.Prelude.{◌≡◌, ℕ, ◌+◌, ◌≤◌, true, false, c
 use Rattle.std.specs.List.{AllByRecursion}
 use Rattle.std.specs.Str.{bytes_eq}
 use Rattle.std.specs.Option.{option_map}
-use Rattle.fields.specs.declared.values.Pair.{Pair}
-use Rattle.fields.specs.declared.values.Amount.{Amount}
+use Rattle.fields.specs.Values.{Pair, Amount}
 use Rattle.book.specs.Ladder.{OrderId, Ladder, ahead, Ahead, in_order, stands, named, same_pair, at_level, lookup, at_rank, Placed, placed, placed_all, reset, amended, without, cleared}
 use Rattle.book.specs.Calls.{Finds}
 use Rattle.book.specs.declared.order.Order.{Order}

@@ -7,8 +7,7 @@ use Rattle.std.specs.Str.{bytes_eq}
 use Rattle.std.specs.Option.{option_map}
 use Rattle.std.proofs.lemmas.Bool.{both_ways, and_parts, not-true}
 use Rattle.std.proofs.lemmas.Bool.Decides.{nat_tests}
-use Rattle.fields.specs.declared.values.Pair.{Pair}
-use Rattle.fields.specs.declared.values.Amount.{Amount}
+use Rattle.fields.specs.Values.{Pair, Amount}
 use Rattle.book.specs.Ladder.{OrderId, same_pair, ahead, named, in_order, apart, stands, lookup, placed, without, at_rank, reset, amended, cleared}
 use Rattle.book.specs.Calls.{PlaceRefused}
 use Rattle.book.specs.declared.order.Order.{Order}

@@ -7,7 +7,7 @@ use Rattle.std.specs.Str.{bytes_eq}
 use Rattle.std.proofs.lemmas.Slice.Eq.{bytes_eq-Decides}
 use Rattle.std.proofs.lemmas.Bool.{leb-true, leb-false, le-leb, true≢false, false≢true, both_ways, and_parts}
 use Rattle.std.proofs.lemmas.Bool.Decides.{nat_tests}
-use Rattle.fields.specs.declared.values.Pair.{Pair}
+use Rattle.fields.specs.Values.{Pair}
 use Rattle.fields.proofs.Sames.{pair_same, label_same}
 use Rattle.book.specs.Sides.{before, leads, sides_agree, AsGood}
 use Rattle.book.specs.Ladder.{OrderId, ahead, Ahead, named, at_level}

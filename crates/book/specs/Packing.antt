@@ -6,9 +6,7 @@ use Rattle.std.proofs.Common.{◌∙◌, arith}
 use denote.Struct.Props.{props}
 use Rattle.std.specs.List.{AllWithin, HoldsAt, insert, remove, AllByRecursion, list_all}
 use Rattle.std.proofs.lemmas.Bool.{and_parts, and_from}
-use Rattle.fields.specs.declared.values.Pair.{Pair}
-use Rattle.fields.specs.declared.values.Price.{Price}
-use Rattle.fields.specs.declared.values.Amount.{Amount}
+use Rattle.fields.specs.Values.{Pair, Price, Amount}
 use Rattle.fields.proofs.Sames.{pair_same, label_same, price_same, amount_same}
 use Rattle.book.specs.Ladder.{OrderId, ahead, named, at_level, in_order, apart, stands, placed, without, at_rank, amended, reset, cleared}
 use Rattle.book.specs.Calls.{Finds}

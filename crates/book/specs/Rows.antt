@@ -31,11 +31,11 @@ form_of r e =
 -- the order of a row; terms are given by their own row
 abbrev pub whole_order : {R T : Type 0} → (R → T) → (r : Row R) → Formed r → Order T
 whole_order given r f = record {
-  pair = record { bytes = r.pair; ok = f.pair };
+  pair = record { bytes = r.pair; kind = record {}; ok = f.pair };
   side = r.side;
-  id = record { bytes = r.id; ok = f.id };
-  price = record { count = r.price; ok = f.price };
-  amount = record { count = r.amount; ok = f.amount };
+  id = record { bytes = r.id; kind = record {}; ok = f.id };
+  price = record { count = r.price; kind = record {}; ok = f.price };
+  amount = record { count = r.amount; kind = record {}; ok = f.amount };
   terms = given r.terms;
 }
 

@@ -1,6 +1,6 @@
 -- What one packet does: nothing to the ladder, or its message is accepted and gives the ladder then.
 use Rattle.std.proofs.Common.{◌≡◌, ℕ, Bool, true, false, cond, List, ◌∷◌, drop, Ok, Err, Result, refl, ap, ◌∙◌}
-use Rattle.fields.specs.declared.values.TimeOfDay.{TimeOfDay}
+use Rattle.fields.specs.Values.{TimeOfDay}
 use Rattle.book.specs.declared.order.Order.{Order}
 use Rattle.message.specs.Reading.{Reading, ◌▷◌}
 use Rattle.packet.specs.declared.packets.Packet.{Packet}

@@ -1,9 +1,7 @@
 -- An order by the messages accepted: which name it, which put it, and with what. A history has the newest message first.
 use Rattle.std.specs.Prelude.{◌≡◌, ℕ, Bool, false, cond, ◌&&◌, ◌||◌, List, [], ◌∷◌, drop, Some, None, Ok, Err, Option, Result}
 use Rattle.std.specs.Option.{option_map, option_or}
-use Rattle.fields.specs.declared.values.Pair.{Pair}
-use Rattle.fields.specs.declared.values.Price.{Price}
-use Rattle.fields.specs.declared.values.Amount.{Amount}
+use Rattle.fields.specs.Values.{Pair, Price, Amount}
 use Rattle.book.specs.declared.order.Order.{Order}
 use Rattle.book.specs.declared.order.Side.{Side}
 use Rattle.book.specs.Ladder.{OrderId, same_pair, named, lookup}

@@ -1,7 +1,7 @@
 -- What packets do to a session's state and its ladder, and what a stream of bytes means.
 use Rattle.std.specs.Prelude.{◌≡◌, ℕ, ◌+◌, ◌<◌, ◌≤◌, Bool, true, false, cond, ◌||◌, ◌⊎◌, List, [], ◌∷◌, ◌++◌, length, drop, None, Ok, Err, Result, ◌==◌}
 use Rattle.std.specs.List.{AllByRecursion}
-use Rattle.fields.specs.declared.values.TimeOfDay.{TimeOfDay}
+use Rattle.fields.specs.Values.{TimeOfDay}
 use Rattle.book.specs.declared.order.Order.{Order}
 use Rattle.book.specs.Ladder.{Ladder}
 use Rattle.venue.specs.Form as venue

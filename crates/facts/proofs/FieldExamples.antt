@@ -5,7 +5,7 @@ use Rattle.fields.specs.Ranges.{priced}
 use Rattle.facts.specs.FieldSamples.{FieldSamples}
 use Rattle.digits.specs.Written.{padded}
 use Rattle.digits.proofs.Fronts.{spaces_replicate}
-use Rattle.fields.proofs.Ranges.{between_bounds}
+use Rattle.fields.specs.Bounds.{between_bounds}
 use Rattle.digits.proofs.Shapes.{plain_decimal, parted_decimal, decimal_shape, decimal_some, blank_none}
 
 pub field_samples : FieldSamples

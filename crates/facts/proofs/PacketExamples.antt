@@ -6,7 +6,7 @@ use Rattle.fields.specs.Fields.{IntegerField}
 use Rattle.fields.specs.Forms.{Paired, below, paired}
 use Rattle.fields.specs.Ranges.{between}
 use Rattle.digits.proofs.Fronts.{pow10_le, spaces_replicate}
-use Rattle.fields.proofs.Tests.{each_between, paired_decides}
+use Rattle.fields.specs.Tests.{each_between, paired_decides}
 use Rattle.packet.specs.Letters.{Letter, accepted, rejected, sequenced, heartbeat, explained, directory, code}
 use Rattle.packet.specs.Layouts.{PrintableTo, field}
 use Rattle.packet.specs.declared.packets.Packet.TheVariants.{LoginAccepted}

@@ -1,33 +1,33 @@
 -- The laws of the fields.
-use Rattle.std.proofs.Common.{◌≡◌, ℕ, ◌+◌, ◌-◌, ◌^◌, ◌<◌, ◌≤◌, eqb, ◌⊎◌, List, [], ◌∷◌, ◌++◌, length, get_or, replicate, Ok, Err, decimal, Result, sym, refl, ap, ◌∙◌, subst, inl, inr, ⊎_elim, arith}
+use Rattle.std.proofs.Common.{◌≡◌, ℕ, ◌-◌, ◌^◌, ◌<◌, ◌≤◌, eqb, List, [], ◌∷◌, ◌++◌, length, replicate, Ok, Err, decimal, Result, sym, refl, ap, ◌∙◌, subst, inl, inr, ⊎_elim, arith}
 use Rattle.std.specs.List.{AllByRecursion}
-use Rattle.std.proofs.lemmas.Bool.{cond_both, eqb-true, eqb-false, cases_lt}
-use Rattle.std.proofs.ByRecursion.{All-append, All-weaker, All-from_get_or}
+use Rattle.std.proofs.lemmas.Bool.{cond_both, eqb-true}
+use Rattle.std.proofs.ByRecursion.{All-append, All-weaker}
 use Rattle.std.proofs.lemmas.Fmt.{digits_decimal, digits_value-decimal, length-decimal-le, decimal_nonempty}
 use Rattle.fields.specs.declared.fault.Fault.{Fault}
-use Rattle.fields.specs.declared.values.Price.{Price}
-use Rattle.fields.specs.declared.values.Amount.{Amount}
-use Rattle.fields.specs.declared.values.Quantity.{Quantity}
-use Rattle.fields.specs.declared.values.Integer.{Integer}
-use Rattle.fields.specs.declared.values.Label.{Label}
-use Rattle.fields.specs.declared.values.Pair.{Pair}
-use Rattle.fields.specs.declared.values.TimeOfDay.{TimeOfDay}
+use Rattle.fields.specs.declared.integers.Integer.{Integer}
+use Rattle.fields.specs.declared.decimals.Decimal.{Decimal as Decimals}
+use Rattle.fields.specs.declared.decimals.DecimalKind as decimal_kind
+use Rattle.fields.specs.declared.texts.Text.{Text}
+use Rattle.fields.specs.declared.texts.TextKind as text_kind
+use Rattle.fields.specs.Values.{Price, Amount, Quantity, Label, Pair, TimeOfDay}
+use Rattle.fields.specs.Decimals.{CountText, count_text}
+use Rattle.fields.specs.Texts.{Kept, TextLaws}
+use Rattle.fields.specs.Scripts.{label_laws, pair_laws, time_laws}
+use Rattle.fields.proofs.Counting.{one_text}
 use Rattle.digits.specs.Bytes.{Digit, Space}
 use Rattle.fields.specs.Bytes.{Printable}
-use Rattle.digits.specs.Numerals.{Decimal, DecimalField, Whole, pointed}
-use Rattle.fields.specs.Forms.{Labelled, Paired, Timed}
-use Rattle.fields.specs.Fields.{PriceField, AmountField, QuantityField, BlankField, IntegerField, LabelField, PairField, TimeField, price_text, amount_text, quantity_text, integer_text}
+use Rattle.digits.specs.Numerals.{Decimal, Whole, pointed}
+use Rattle.fields.specs.Fields.{PriceField, AmountField, QuantityField, IntegerField, LabelField, PairField, TimeField, price_text, amount_text, quantity_text, integer_text}
 use Rattle.digits.specs.Written.{written, padded, justified}
 use Rattle.fields.specs.Calls.{Reads}
 use Rattle.fields.specs.Laws.{Codec, FieldLaws}
-use Rattle.digits.proofs.Counts.{one_count, own, written_reads}
+use Rattle.digits.proofs.Counts.{own, written_reads}
 use Rattle.digits.proofs.Fronts.{pow10_le, spaces_replicate}
-use Rattle.digits.proofs.Shapes.{blank_none}
 use Rattle.digits.proofs.Wholes.{one_whole}
 use Rattle.digits.proofs.Puts.{length-padded, length-justified}
-use Rattle.fields.proofs.Ranges.{price_fits, price_small, amount_fits, amount_small, quantity_amount}
-use Rattle.fields.proofs.Sames.{price_same, amount_same, quantity_same, integer_same, label_same, pair_same, time_same}
-use Rattle.fields.proofs.Tests.{labelled_decides, paired_decides, timed_decides}
+use Rattle.fields.specs.Bounds.{between_bounds}
+use Rattle.fields.proofs.Sames.{decimal_same, integer_same, text_same}
 
 -- written bytes read back, where bytes are one x's field at most and values of one x are the same
 back_reads : {V X : Type 0} (Field : List ℕ → X → Type 0) (value : V → X) (text : V → List ℕ)
@@ -57,67 +57,49 @@ printable_whole : (bs : List ℕ) (n : ℕ) → Whole bs n → AllByRecursion Pr
 printable_whole bs n w =
     subst (AllByRecursion Printable) (sym w.form) (All-append Printable w.gap w.figures (printable_spaces _ w.gap_spaces) (printable_digits _ w.figures_digits))
 
-price_one : (bs : List ℕ) (m n : ℕ) → PriceField bs m → PriceField bs n → m ≡ n
-price_one bs m n a b = one_count 5 bs m n a.0.decimal b.0.decimal
+module _ {K : Type 0} (k : decimal_kind.Ghosts K) where
+  decimal_one : (bs : List ℕ) (m n : ℕ) → k.field bs m → k.field bs n → m ≡ n
+  decimal_one bs m n a b = one_text k.WIDTH k.PLACES bs m n (k.laws.is_text bs m a).0 (k.laws.is_text bs n b).0
 
-price_back : (v : Price) → PriceField (price_text v.count) v.count
-price_back v = (record { long = length-padded 10 _ (price_fits _ v.ok); decimal = written_reads 5 v.count 10 (price_small _ v.ok) }, v.ok)
+  decimal_long : (bs : List ℕ) (n : ℕ) → CountText k.WIDTH k.PLACES bs n → length bs ≡ k.WIDTH
+  decimal_long bs n t = ⊎_elim (λ d. d.long) (λ b. b.0.0) t
+
+  printable_text : (bs : List ℕ) (n : ℕ) → CountText k.WIDTH k.PLACES bs n → AllByRecursion Printable bs
+  printable_text bs n t = ⊎_elim (λ d. printable_decimal k.PLACES bs n d.decimal) (λ b. printable_spaces bs b.0.1) t
+
+  count_small : (v : Decimals K k) → v.count < 2 ^ 64
+  count_small v = let b = between_bounds k.LEAST k.MOST v.count (sym (k.laws.range v.count) ∙ v.ok) in omega (arith, b.1, k.laws.small)
+
+  -- what is written is a decimal, or spaces for 0
+  text_count : (v : Decimals K k) → CountText k.WIDTH k.PLACES (count_text k.WIDTH k.PLACES v.count) v.count
+  text_count v =
+      cond_both (eqb v.count 0) [] (written k.PLACES v.count) (λ t. CountText k.WIDTH k.PLACES (padded k.WIDTH t) v.count)
+      (λ e. inr ((length-padded k.WIDTH [] (omega arith), spaces_replicate (k.WIDTH - 0)), eqb-true _ 0 e))
+      (λ e. inl (record { long = length-padded k.WIDTH _ (k.laws.fits _ v.ok); decimal = written_reads k.PLACES v.count k.WIDTH (count_small v) }))
+
+  decimal_back : (v : Decimals K k) → k.field (k.text v.count) v.count
+  decimal_back v =
+      subst (λ t. k.field t v.count) (sym (k.laws.written_text v.count v.ok)) (k.laws.is_field _ v.count (text_count v) v.ok)
+
+  pub decimal_codec : Codec {V = Decimals K k} k.WIDTH k.field (λ v. v.count) (λ v. k.text v.count)
+  decimal_codec = record {
+    one = decimal_one;
+    long = λ bs x f. decimal_long bs x (k.laws.is_text bs x f).0;
+    printable = λ bs x f. printable_text bs x (k.laws.is_text bs x f).0;
+    made = λ bs x f. (record { count = x; kind = record {}; ok = (k.laws.is_text bs x f).1 }, refl);
+    same = decimal_same k;
+    back = decimal_back;
+    reads_back = back_reads k.field (λ v. v.count) (λ v. k.text v.count) decimal_one (decimal_same k) decimal_back;
+  }
 
 pub price_codec : Codec {V = Price} 10 PriceField (λ v. v.count) (λ v. price_text v.count)
-price_codec = record {
-  one = price_one;
-  long = λ bs x f. f.0.long;
-  printable = λ bs x f. printable_decimal 5 bs x f.0.decimal;
-  made = λ bs x f. (record { count = x; ok = f.1 }, refl);
-  same = price_same;
-  back = price_back;
-  reads_back = back_reads PriceField (λ v. v.count) (λ v. price_text v.count) price_one price_same price_back;
-}
-
-amount_one : (bs : List ℕ) (m n : ℕ) → AmountField bs m → AmountField bs n → m ≡ n
-amount_one bs m n a b = one_count 2 bs m n a.0.decimal b.0.decimal
-
-amount_back : (v : Amount) → AmountField (amount_text v.count) v.count
-amount_back v = (record { long = length-padded 16 _ (amount_fits _ v.ok); decimal = written_reads 2 v.count 16 (amount_small _ v.ok) }, v.ok)
+price_codec = decimal_codec _
 
 pub amount_codec : Codec {V = Amount} 16 AmountField (λ v. v.count) (λ v. amount_text v.count)
-amount_codec = record {
-  one = amount_one;
-  long = λ bs x f. f.0.long;
-  printable = λ bs x f. printable_decimal 2 bs x f.0.decimal;
-  made = λ bs x f. (record { count = x; ok = f.1 }, refl);
-  same = amount_same;
-  back = amount_back;
-  reads_back = back_reads AmountField (λ v. v.count) (λ v. amount_text v.count) amount_one amount_same amount_back;
-}
-
-quantity_one : (bs : List ℕ) (m n : ℕ) → QuantityField bs m → QuantityField bs n → m ≡ n
-quantity_one bs m n a b =
-    ⊎_elim
-    (λ p. ⊎_elim (λ q. one_count 2 bs m n p.decimal q.decimal) (λ q. absurd (blank_none 2 bs m q.0.1 p.decimal)) b.0)
-    (λ p. ⊎_elim (λ q. absurd (blank_none 2 bs n p.0.1 q.decimal)) (λ q. p.1 ∙ sym q.1) b.0)
-    a.0
-
-quantity_back : (v : Quantity) → QuantityField (quantity_text v.count) v.count
-quantity_back v = (
-  cond_both (eqb v.count 0) [] (written 2 v.count) (λ t. DecimalField 16 2 (padded 16 t) v.count ⊎ (BlankField (padded 16 t) × (v.count ≡ 0)))
-      (λ e. inr ((refl, spaces_replicate 16), eqb-true _ 0 e))
-      (λ e.
-      let a = quantity_amount _ v.ok (eqb-false v.count 0 e) in
-      inl (record { long = length-padded 16 _ (amount_fits _ a); decimal = written_reads 2 v.count 16 (amount_small _ a) })),
-  v.ok,
-)
+amount_codec = decimal_codec _
 
 pub quantity_codec : Codec {V = Quantity} 16 QuantityField (λ v. v.count) (λ v. quantity_text v.count)
-quantity_codec = record {
-  one = quantity_one;
-  long = λ bs x f. ⊎_elim (λ d. d.long) (λ b. b.0.0) f.0;
-  printable = λ bs x f. ⊎_elim (λ d. printable_decimal 2 bs x d.decimal) (λ b. printable_spaces bs b.0.1) f.0;
-  made = λ bs x f. (record { count = x; ok = f.1 }, refl);
-  same = quantity_same;
-  back = quantity_back;
-  reads_back = back_reads QuantityField (λ v. v.count) (λ v. quantity_text v.count) quantity_one quantity_same quantity_back;
-}
+quantity_codec = decimal_codec _
 
 -- n has few digits, so it is small
 integer_small : (w n : ℕ) → w ≤ 18 → n < 10 ^ w → n < 2 ^ 64
@@ -154,63 +136,33 @@ module _ (w : ℕ) where
     reads_back = back_reads (IntegerField w) (λ v. v.value) (λ v. integer_text w v.value) integer_one (integer_same w) integer_back;
   }
 
--- a field that is kept as its bytes
-kept_one : (Form : List ℕ → Type 0) (bs x y : List ℕ) → Form bs × (x ≡ bs) → Form bs × (y ≡ bs) → x ≡ y
+-- fields that are kept as their bytes
+kept_one : (Form : List ℕ → Type 0) (bs x y : List ℕ) → Kept Form bs x → Kept Form bs y → x ≡ y
 kept_one Form bs x y a b = a.1 ∙ sym b.1
 
+module _ {K : Type 0} (n : ℕ) (k : text_kind.Ghosts K n) (laws : TextLaws n k.form k.test) where
+  text_back : (v : Text K n k) → Kept k.form v.bytes v.bytes
+  text_back v = ((laws.decides v.bytes).0 v.ok, refl)
+
+  pub text_codec : Codec {V = Text K n k} n (Kept k.form) (λ v. v.bytes) (λ v. v.bytes)
+  text_codec = record {
+    one = kept_one k.form;
+    long = λ bs x f. laws.long bs f.0;
+    printable = λ bs x f. laws.printable bs f.0;
+    made = λ bs x f. (record { bytes = x; kind = record {}; ok = (laws.decides x).1 (subst k.form (sym f.1) f.0) }, refl);
+    same = text_same n k;
+    back = text_back;
+    reads_back = back_reads (Kept k.form) (λ v. v.bytes) (λ v. v.bytes) (kept_one k.form) (text_same n k) text_back;
+  }
+
 pub label_codec : (n : ℕ) → Codec {V = Label n} n (LabelField n) (λ v. v.bytes) (λ v. v.bytes)
-label_codec n = record {
-  one = kept_one (Labelled n);
-  long = λ bs x f. f.0.0;
-  printable = λ bs x f. All-from_get_or Printable bs 0 f.0.3;
-  made = λ bs x f. (record { bytes = x; ok = (labelled_decides n x).1 (subst (Labelled n) (sym f.1) f.0) }, refl);
-  same = label_same n;
-  back = label_back;
-  reads_back = back_reads (LabelField n) (λ v. v.bytes) (λ v. v.bytes) (kept_one (Labelled n)) (label_same n) label_back;
-}
-  where
-    label_back : (v : Label n) → LabelField n v.bytes v.bytes
-    label_back v = ((labelled_decides n v.bytes).0 v.ok, refl)
-
-pair_back : (v : Pair) → PairField v.bytes v.bytes
-pair_back v = ((paired_decides v.bytes).0 v.ok, refl)
-
--- each of the seven bytes is a letter or the slash
-printable_pair : (bs : List ℕ) → Paired bs → AllByRecursion Printable bs
-printable_pair bs p =
-    All-from_get_or Printable bs 0
-    (λ i l.
-    ⊎_elim (λ a. let k = p.1 i a in (omega arith, omega arith))
-    (λ a. ⊎_elim
-    (λ b. let e : i ≡ 3 = omega arith in let s = p.2 in subst (λ j. Printable (get_or bs j 0)) (sym e) (omega arith, omega arith))
-    (λ b. let e : 4 + (i - 4) ≡ i = omega arith in let k = p.3 (i - 4) (omega arith) in subst (λ j. Printable (get_or bs j 0)) e (omega arith, omega arith))
-    (cases_lt i 4))
-    (cases_lt i 3))
+label_codec n = text_codec n _ (label_laws n)
 
 pub pair_codec : Codec {V = Pair} 7 PairField (λ v. v.bytes) (λ v. v.bytes)
-pair_codec = record {
-  one = kept_one Paired;
-  long = λ bs x f. f.0.0;
-  printable = λ bs x f. printable_pair bs f.0;
-  made = λ bs x f. (record { bytes = x; ok = (paired_decides x).1 (subst Paired (sym f.1) f.0) }, refl);
-  same = pair_same;
-  back = pair_back;
-  reads_back = back_reads PairField (λ v. v.bytes) (λ v. v.bytes) (kept_one Paired) pair_same pair_back;
-}
-
-time_back : (v : TimeOfDay) → TimeField v.bytes v.bytes
-time_back v = ((timed_decides v.bytes).0 v.ok, refl)
+pair_codec = text_codec 7 _ pair_laws
 
 pub time_codec : Codec {V = TimeOfDay} 9 TimeField (λ v. v.bytes) (λ v. v.bytes)
-time_codec = record {
-  one = kept_one Timed;
-  long = λ bs x f. f.0.0;
-  printable = λ bs x f. printable_digits bs (All-from_get_or Digit bs 0 f.0.1);
-  made = λ bs x f. (record { bytes = x; ok = (timed_decides x).1 (subst Timed (sym f.1) f.0) }, refl);
-  same = time_same;
-  back = time_back;
-  reads_back = back_reads TimeField (λ v. v.bytes) (λ v. v.bytes) (kept_one Timed) time_same time_back;
-}
+time_codec = text_codec 9 _ time_laws
 
 pub field_laws : FieldLaws
 field_laws = record {

@@ -1,4 +1,3 @@
-pub mod Ranges
+pub mod Counting
 pub mod Sames
-pub mod Tests
 pub mod Codecs

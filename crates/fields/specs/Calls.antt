@@ -13,6 +13,11 @@ abbrev pub Reads : {V X : Type 0} → (List ℕ → X → Type 0) → (V → X) 
 Reads Field value bs (Ok v) = Field bs (value v)
 Reads {V} {X} Field value bs (Err e) = (number e ≡ 43) × ((x : X) → Field bs x → ⊥)
 
+-- a finder of values finds the value whose field the bytes are, and none exactly where they are no value's
+abbrev pub Found : {V X : Type 0} → (List ℕ → X → Type 0) → (V → X) → List ℕ → Option V → Type 0
+Found Field value bs (Some v) = Field bs (value v)
+Found {V} {X} Field value bs None = (x : X) → Field bs x → ⊥
+
 -- a maker of values answers the value of this number, and none exactly where no value may have it
 abbrev pub Makes : {V : Type 0} → (ℕ → Type 0) → (V → ℕ) → ℕ → Option V → Type 0
 Makes May value n (Some v) = value v ≡ n

@@ -1,10 +1,10 @@
 -- The grammar of each field: which bytes are the field of which number or text; and the text that is written.
 use Rattle.std.specs.Prelude.{◌≡◌, ℕ, cond, ◌⊎◌, List, [], length, decimal, ◌==◌}
-use Rattle.std.specs.List.{AllByRecursion}
-use Rattle.digits.specs.Bytes.{Space}
 use Rattle.digits.specs.Numerals.{DecimalField, Whole}
 use Rattle.fields.specs.Ranges.{PriceCount, AmountCount, QuantityCount, IntegerValue}
 use Rattle.digits.specs.Written.{written, padded, justified}
+use Rattle.fields.specs.Decimals.{Blank}
+use Rattle.fields.specs.Texts.{Kept}
 use Rattle.fields.specs.Forms.{Labelled, Paired, Timed}
 
 -- 10 bytes, at most five decimals
@@ -17,7 +17,7 @@ AmountField bs n = DecimalField 16 2 bs n × AmountCount n
 
 -- 16 spaces
 abbrev pub BlankField : List ℕ → Type 0
-BlankField bs = (length bs ≡ 16) × AllByRecursion Space bs
+BlankField = Blank 16
 
 -- an amount's field, that may also be zero or all spaces, which count 0
 abbrev pub QuantityField : List ℕ → ℕ → Type 0
@@ -26,10 +26,6 @@ QuantityField bs n = (DecimalField 16 2 bs n ⊎ (BlankField bs × (n ≡ 0))) �
 -- spaces and digits in `width` bytes
 abbrev pub IntegerField : ℕ → List ℕ → ℕ → Type 0
 IntegerField width bs n = (length bs ≡ width) × Whole bs n × IntegerValue width n
-
--- a field that is kept as its bytes
-abbrev pub Kept : (List ℕ → Type 0) → List ℕ → List ℕ → Type 0
-Kept Form bs kept = Form bs × (kept ≡ bs)
 
 abbrev pub LabelField : ℕ → List ℕ → List ℕ → Type 0
 LabelField width = Kept (Labelled width)

@@ -2,13 +2,8 @@
 use Rattle.std.specs.Prelude.{◌≡◌, ℕ, List, length, Ok, Result}
 use Rattle.std.specs.List.{AllByRecursion}
 use Rattle.fields.specs.declared.fault.Fault.{Fault}
-use Rattle.fields.specs.declared.values.Price.{Price}
-use Rattle.fields.specs.declared.values.Amount.{Amount}
-use Rattle.fields.specs.declared.values.Quantity.{Quantity}
-use Rattle.fields.specs.declared.values.Integer.{Integer}
-use Rattle.fields.specs.declared.values.Label.{Label}
-use Rattle.fields.specs.declared.values.Pair.{Pair}
-use Rattle.fields.specs.declared.values.TimeOfDay.{TimeOfDay}
+use Rattle.fields.specs.declared.integers.Integer.{Integer}
+use Rattle.fields.specs.Values.{Price, Amount, Quantity, Label, Pair, TimeOfDay}
 use Rattle.fields.specs.Bytes.{Printable}
 use Rattle.fields.specs.Fields.{PriceField, AmountField, QuantityField, IntegerField, LabelField, PairField, TimeField, price_text, amount_text, quantity_text, integer_text}
 use Rattle.fields.specs.Calls.{Reads}

@@ -1,6 +1,13 @@
 pub mod Bytes
 pub mod Ranges
 pub mod Forms
+pub mod Decimals
+pub mod Texts
 pub mod Fields
 pub mod Calls
+pub mod Bounds
+pub mod Tests
+pub mod Kinds
+pub mod Scripts
+pub mod Values
 pub mod Laws

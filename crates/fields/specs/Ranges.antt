@@ -21,8 +21,11 @@ abbrev pub AmountCount : ℕ → Type 0
 AmountCount n = amounted n ≡ true
 
 -- a quantity, in hundredths: an amount, or 0 for no restriction
+abbrev pub quantified : ℕ → Bool
+quantified n = between 0 1000000000000000 n
+
 abbrev pub QuantityCount : ℕ → Type 0
-QuantityCount n = between 0 1000000000000000 n ≡ true
+QuantityCount n = quantified n ≡ true
 
 -- a number of at most `width` digits; an integer field has 1 to 18 bytes
 abbrev pub IntegerValue : ℕ → ℕ → Type 0

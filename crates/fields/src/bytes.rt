@@ -1,5 +1,5 @@
 // Tests of single bytes, and bytes put into a buffer.
-ghost use Rattle.std.specs.Prelude.{◌≡◌, Decides};
+ghost use Rattle.std.specs.Prelude.{ℕ, ◌<◌, length, Decides, slice_index};
 ghost use Rattle.fields.specs.Bytes.{Letter, Printable};
 ghost use Rattle.fields.specs.Calls.{Writes};
 
@@ -17,16 +17,11 @@ pub(crate) fn is_printable(b: u8) -> bool
     b >= 0x20 && b <= 0x7e
 }
 
-pub(crate) fn same_bytes(a: &[u8], b: &[u8]) -> bool
-    ensures { Decides result (a.now ≡ b.now) }
+// Whether all bytes are printable.
+pub(crate) fn all_printable(s: &[u8]) -> bool
+    ensures { Decides result ((i : ℕ) → i < length s.now → Printable (slice_index s.now i)) }
 {
-    a == b
-}
-
-pub(crate) fn same_count(count: u64, other: u64) -> bool
-    ensures { Decides result (count ≡ other) }
-{
-    count == other
+    s.iter().all(|b| is_printable(*b))
 }
 
 // Writes a text at `at`.

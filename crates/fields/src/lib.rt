@@ -2,11 +2,21 @@
 #![tactic(auto)]
 
 mod bytes;
-mod decimal;
+mod decimals;
 mod fault;
-mod integer;
+mod integers;
+mod kinds;
+mod labels;
 pub mod laws;
-mod values;
+mod pairs;
+mod texts;
+mod times;
 
+pub use decimals::{Decimal, DecimalKind};
 pub use fault::Fault;
-pub use values::{Amount, Integer, Label, Maker, OrderId, Pair, Price, Quantity, TimeOfDay};
+pub use integers::Integer;
+pub use kinds::{Amount, AmountKind, Price, PriceKind, Quantity, QuantityKind};
+pub use labels::{Label, LabelKind, Maker, OrderId};
+pub use pairs::{Pair, PairKind};
+pub use texts::{Text, TextKind};
+pub use times::{TimeKind, TimeOfDay};

@@ -5,10 +5,10 @@ use Rattle.fields.specs.Bytes.{Printable}
 use Rattle.fields.specs.Fields.{IntegerField, TimeField, integer_text}
 use Rattle.fields.specs.Forms.{Paired, paired}
 use Rattle.fields.specs.Ranges.{between}
-use Rattle.fields.specs.declared.values.Integer.{Integer}
-use Rattle.fields.specs.declared.values.TimeOfDay.{TimeOfDay}
+use Rattle.fields.specs.declared.integers.Integer.{Integer}
+use Rattle.fields.specs.Values.{TimeOfDay}
 use Rattle.fields.proofs.Codecs.{integer_codec, time_codec}
-use Rattle.fields.proofs.Tests.{decides_between, paired_decides}
+use Rattle.fields.specs.Tests.{decides_between, paired_decides}
 use Rattle.readers.specs.Values.{time_of, integer_of}
 use Rattle.readers.specs.Lawful.{time_law, integer_law}
 use Rattle.packet.specs.Letters.{Letter, accepted, rejected, sequenced, heartbeat, explained, directory, code}

@@ -4,7 +4,7 @@ use Rattle.std.specs.Option.{ok_or, option_or}
 use Rattle.std.specs.Bool.{then_some}
 use Rattle.fields.specs.Forms.{paired}
 use Rattle.fields.specs.Ranges.{between}
-use Rattle.fields.specs.declared.values.Integer.{Integer}
+use Rattle.fields.specs.declared.integers.Integer.{Integer}
 use Rattle.readers.specs.Values.{time_of, integer_of}
 use Rattle.packet.specs.Letters.{Letter, accepted, rejected, sequenced, heartbeat, explained, directory, code}
 use Rattle.packet.specs.Layouts.{size, field}

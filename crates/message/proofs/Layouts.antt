@@ -1,8 +1,6 @@
 -- A message on one order is read exactly where it is laid out, and a fault names the first check that fails.
 use Rattle.std.proofs.Common.{◌≡◌, ℕ, ◌+◌, ◌≤◌, Bool, true, false, cond, not, ◌&&◌, List, [], ◌∷◌, length, is_some, Some, None, Ok, Err, MatchBool, Option, sym, refl, ◌∙◌, subst, ap₂, arith, eq-eqb}
-use Rattle.fields.specs.declared.values.Pair.{Pair}
-use Rattle.fields.specs.declared.values.Price.{Price}
-use Rattle.fields.specs.declared.values.Amount.{Amount}
+use Rattle.fields.specs.Values.{Pair, Price, Amount}
 use Rattle.book.specs.Ladder.{OrderId}
 use Rattle.book.specs.declared.order.Order.{Order}
 use Rattle.readers.specs.Values.{pair_of, label_of, price_of, amount_of, side_of, optional_of, PairIs, LabelIs, PriceIs, AmountIs, OptionalIs}

@@ -1,8 +1,6 @@
 -- The messages on one order, read field by field in layout order. Offsets are counted in the message.
 use Rattle.std.specs.Prelude.{ℕ, ◌+◌, cond, not, ◌&&◌, List, is_some, None, Ok, Err, Option}
-use Rattle.fields.specs.declared.values.Pair.{Pair}
-use Rattle.fields.specs.declared.values.Price.{Price}
-use Rattle.fields.specs.declared.values.Amount.{Amount}
+use Rattle.fields.specs.Values.{Pair, Price, Amount}
 use Rattle.book.specs.Ladder.{OrderId}
 use Rattle.book.specs.declared.order.Order.{Order}
 use Rattle.readers.specs.Values.{pair_of, label_of, price_of, amount_of, side_of, optional_of}

@@ -1,7 +1,7 @@
 -- The ladder after a message, from what the book's calls answer.
 use Rattle.std.proofs.Common.{◌≡◌, ℕ, ◌<◌, ◌≤◌, true, false, not, ◌&&◌, leb, List, length, Some, None, Ok, Err, Result, sym, refl, ap, ◌∙◌, subst, ⊎_elim, arith}
 use Rattle.std.proofs.lemmas.Bool.{cond-true, cond-false, le-leb, lt-leb}
-use Rattle.fields.specs.declared.values.Pair.{Pair}
+use Rattle.fields.specs.Values.{Pair}
 use Rattle.fields.proofs.Sames.{label_same}
 use Rattle.book.specs.declared.order.Order.{Order}
 use Rattle.book.specs.declared.ladder.BookFault.{BookFault}

@@ -2,8 +2,7 @@
 use Rattle.std.proofs.Common.{◌≡◌, ℕ, zero, suc, ◌≤◌, true, false, not, ◌&&◌, ◌||◌, leb, List, [], ◌∷◌, ◌++◌, length, is_some, Some, None, Ok, Err, Option, sym, refl, ap, ◌∙◌, ap₂, ⊎_elim, arith}
 use Rattle.std.proofs.lemmas.Bool.{cond-true, cond-false, both_ways, and_parts, le-leb, lt-leb}
 use Rattle.std.proofs.lemmas.Bool.Decides.{nat_tests}
-use Rattle.fields.specs.declared.values.Pair.{Pair}
-use Rattle.fields.specs.declared.values.Price.{Price}
+use Rattle.fields.specs.Values.{Pair, Price}
 use Rattle.book.specs.declared.order.Order.{Order}
 use Rattle.book.specs.Ladder.{OrderId, Ladder, named, apart, stands, lookup, at_rank, placed, without, amended, reset}
 use Rattle.book.specs.Orderly.{split}

@@ -1,7 +1,6 @@
 -- What the messages on one order do, said of the orders that stand before and after.
 use Rattle.std.specs.Prelude.{◌≡◌, ℕ, ◌+◌, ◌<◌, ◌≤◌, ◌⊎◌, List, ◌∷◌, ◌++◌, length, Some, None, Ok, Err, Option, ◌≢◌}
-use Rattle.fields.specs.declared.values.Pair.{Pair}
-use Rattle.fields.specs.declared.values.Price.{Price}
+use Rattle.fields.specs.Values.{Pair, Price}
 use Rattle.book.specs.declared.order.Order.{Order}
 use Rattle.book.specs.declared.ladder.BookFault.TheVariants.{NotStanding, Standing, Full}
 use Rattle.book.specs.Ladder.{OrderId, Ladder, lookup, at_rank, reset, Placed}

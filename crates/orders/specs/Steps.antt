@@ -1,6 +1,6 @@
 -- What the steps of a message answer.
 use Rattle.std.specs.Prelude.{◌≡◌, ℕ, true, false, List, Some, None, Ok, Err, Result}
-use Rattle.fields.specs.declared.values.Pair.{Pair}
+use Rattle.fields.specs.Values.{Pair}
 use Rattle.book.specs.declared.order.Order.{Order}
 use Rattle.book.specs.declared.ladder.BookFault.{BookFault}
 use Rattle.book.specs.declared.ladder.BookFault.TheVariants.{NotStanding, Standing}

@@ -1,7 +1,7 @@
 -- Letters and packets told apart.
 use Rattle.std.proofs.Common.{◌≡◌, ℕ, cond, eqb, ◌⊎◌, sym, refl, ap, ◌∙◌, subst, inl, inr}
-use Rattle.fields.specs.declared.values.Integer.{Integer}
-use Rattle.fields.specs.declared.values.TimeOfDay.{TimeOfDay}
+use Rattle.fields.specs.declared.integers.Integer.{Integer}
+use Rattle.fields.specs.Values.{TimeOfDay}
 use Rattle.packet.specs.Letters.{Letter, accepted, rejected, sequenced, heartbeat, explained, directory, code}
 use Rattle.packet.specs.Layouts.{letter_of}
 use Rattle.packet.specs.declared.packets.Packet.{Packet}

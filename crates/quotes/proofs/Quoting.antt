@@ -1,7 +1,6 @@
 -- An order that is given another price stands at the rank that is told.
 use Rattle.std.proofs.Common.{◌≡◌, ℕ, true, List, Some, None, Ok, sym, ap, ◌∙◌, arith}
-use Rattle.fields.specs.declared.values.Pair.{Pair}
-use Rattle.fields.specs.declared.values.Price.{Price}
+use Rattle.fields.specs.Values.{Pair, Price}
 use Rattle.book.specs.Ladder.{OrderId, apart, named, lookup}
 use Rattle.book.specs.Calls.{Finds}
 use Rattle.book.specs.declared.order.Order.{Order}

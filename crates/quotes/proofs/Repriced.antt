@@ -1,7 +1,6 @@
 -- The repricing of an order, from what the book's calls answer.
 use Rattle.std.proofs.Common.{◌≡◌, ℕ, ◌≤◌, false, cond, List, length, is_some, Some, Ok, Err, Result, sym, refl, ap, ◌∙◌, subst, ap₂, arith}
-use Rattle.fields.specs.declared.values.Pair.{Pair}
-use Rattle.fields.specs.declared.values.Price.{Price}
+use Rattle.fields.specs.Values.{Pair, Price}
 use Rattle.book.specs.Ladder.{OrderId, named, stands, lookup, placed, without}
 use Rattle.book.specs.Calls.{number, Place, Remove}
 use Rattle.quotes.specs.Quotes.{repriced, Reprice}

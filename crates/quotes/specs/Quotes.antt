@@ -1,7 +1,6 @@
 -- What the calls on quotes answer.
 use Rattle.std.specs.Prelude.{◌≡◌, ℕ, List, Some, None, Ok, Err, Result}
-use Rattle.fields.specs.declared.values.Pair.{Pair}
-use Rattle.fields.specs.declared.values.Price.{Price}
+use Rattle.fields.specs.Values.{Pair, Price}
 use Rattle.book.specs.Ladder.{OrderId, lookup, at_rank, placed, without}
 use Rattle.book.specs.Calls.{number}
 use Rattle.book.specs.declared.ladder.BookFault.{BookFault}

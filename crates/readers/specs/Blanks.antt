@@ -10,7 +10,10 @@ use Rattle.std.proofs.lemmas.Bool.Decides.{Decides-and, Decides-eqb}
 use Rattle.digits.specs.Bytes.{Space}
 use Rattle.digits.proofs.Shapes.{blank_none}
 use Rattle.book.specs.declared.order.Side.TheVariants.{Bid, Offer}
-use Rattle.readers.specs.Values.{blank, optional_of, PairIs, LabelIs, TimeIs, PriceIs, AmountIs, IntegerIs, SideIs, OptionalIs}
+use Rattle.fields.specs.declared.texts.TextKind as text_kind
+use Rattle.fields.specs.Scripts.{label_laws, pair_laws, time_laws}
+use Rattle.fields.specs.Texts.{TextLaws}
+use Rattle.readers.specs.Values.{blank, optional_of, TextIs, PairIs, LabelIs, TimeIs, PriceIs, AmountIs, IntegerIs, SideIs, OptionalIs}
 use Rattle.readers.specs.Laws.{FieldLaw, BlankFree}
 use Rattle.readers.specs.Exacts.{spaced_decides, blank_whole}
 
@@ -22,14 +25,18 @@ first_space : (bs : List ℕ) → AllByRecursion Space bs → 0 < length bs → 
 first_space [] s l = absurd (omega arith)
 first_space (c ∷ cs) s l = s.0
 
+module _ {K : Type 0} (n : ℕ) (k : text_kind.Ghosts K n) (laws : TextLaws n k.form k.test) where
+  pub text_filled : BlankFree (TextIs n k)
+  text_filled bs v f s = laws.filled bs f.0 s
+
 pub pair_filled : BlankFree PairIs
-pair_filled bs v f s = let l = f.0.0 in let e = first_space bs s (omega arith) in let k = f.0.1 0 (omega arith) in omega arith
+pair_filled = text_filled 7 _ pair_laws
 
 pub label_filled : (n : ℕ) → BlankFree (LabelIs n)
-label_filled n bs v f s = f.0.2 (first_space bs s (omega (arith, f.0.0, f.0.1)))
+label_filled n = text_filled n _ (label_laws n)
 
 pub time_filled : BlankFree TimeIs
-time_filled bs v f s = let l = f.0.0 in let e = first_space bs s (omega arith) in let k = f.0.1 0 (omega arith) in omega arith
+time_filled = text_filled 9 _ time_laws
 
 pub price_filled : BlankFree PriceIs
 price_filled bs v f s = blank_none 5 bs v.count s f.0.decimal

@@ -14,7 +14,7 @@ use Rattle.digits.specs.Bytes.{Digit, Space}
 use Rattle.digits.specs.Numerals.{front, numeral, Whole, Decimal}
 use Rattle.digits.proofs.Fronts.{digit_test, digit_from_test, spaces_rest}
 use Rattle.digits.proofs.Shapes.{Plain, Parted, read_on-append, plain_decimal, parted_decimal, decimal_some, decimal_shape}
-use Rattle.fields.proofs.Tests.{decides_leb}
+use Rattle.fields.specs.Tests.{decides_leb}
 use Rattle.readers.specs.Numbers.{spaced, figured, unspaced, behind, plain, parted, whole_of, decimal_of}
 
 -- what g works out is what is so, and nothing else

@@ -8,19 +8,19 @@ use Rattle.std.proofs.lemmas.Bool.Decides.{nat_tests, Decides-ltb, Decides-and}
 use Rattle.digits.specs.Bytes.{Space}
 use Rattle.digits.specs.Numerals.{Whole, Decimal}
 use Rattle.digits.proofs.Shapes.{blank_none}
-use Rattle.fields.specs.declared.values.Price.{Price}
-use Rattle.fields.specs.declared.values.Amount.{Amount}
-use Rattle.fields.specs.declared.values.Quantity.{Quantity}
-use Rattle.fields.specs.declared.values.Integer.{Integer}
-use Rattle.fields.specs.Fields.{Kept}
-use Rattle.fields.specs.Forms.{Labelled, Paired, Timed, labelled, paired, timed}
-use Rattle.fields.specs.Ranges.{between, priced, amounted, PriceCount, AmountCount, QuantityCount, IntegerValue}
-use Rattle.fields.proofs.Sames.{price_same, amount_same, quantity_same, integer_same, label_same, pair_same, time_same}
-use Rattle.fields.proofs.Tests.{labelled_decides, paired_decides, timed_decides, decides_leb}
+use Rattle.fields.specs.declared.integers.Integer.{Integer}
+use Rattle.fields.specs.declared.decimals.Decimal.{Decimal as Decimals}
+use Rattle.fields.specs.declared.decimals.DecimalKind as decimal_kind
+use Rattle.fields.specs.declared.texts.TextKind as text_kind
+use Rattle.fields.specs.Scripts.{label_laws, pair_laws, time_laws}
+use Rattle.fields.specs.Texts.{Kept, TextLaws}
+use Rattle.fields.specs.Ranges.{IntegerValue}
+use Rattle.fields.proofs.Sames.{decimal_same, integer_same, text_same}
+use Rattle.fields.specs.Tests.{decides_leb}
 use Rattle.book.specs.declared.order.Side.{Side}
 use Rattle.book.specs.declared.order.Side.TheVariants.{Bid, Offer}
 use Rattle.readers.specs.Numbers.{spaced, whole_of, decimal_of}
-use Rattle.readers.specs.Values.{passing, and_then, sized, numbered, numbered_value, pair_of, label_of, time_of, price_of, amount_of, quantity_of, integer_of, side_of, side_for, letter_of, PairIs, LabelIs, TimeIs, PriceIs, AmountIs, QuantityIs, IntegerIs, SideIs}
+use Rattle.readers.specs.Values.{passing, and_then, sized, numbered, numbered_value, decimal_value, text_value, DecimalIs, TextIs, pair_of, label_of, time_of, price_of, amount_of, quantity_of, integer_of, side_of, side_for, letter_of, PairIs, LabelIs, TimeIs, PriceIs, AmountIs, QuantityIs, IntegerIs, SideIs}
 use Rattle.readers.specs.Laws.{FieldLaw}
 use Rattle.readers.specs.Exacts.{Exact, spaced_decides, whole_exact, decimal_exact}
 
@@ -79,62 +79,64 @@ law_like to from law = record {
   long = λ bs v h. law.long bs v (from bs v h);
 }
 
+module _ {K : Type 0} (n : ℕ) (k : text_kind.Ghosts K n) (laws : TextLaws n k.form k.test) where
+  pub text_law : FieldLaw n (TextIs n k) (text_value n k)
+  unfolding text_value
+  text_law = kept_law n k.form k.test (λ v. v.bytes) (λ bs h. record { bytes = bs; kind = record {}; ok = h }) laws.decides laws.long (λ bs h. refl) (text_same n k)
+
 pub pair_law : FieldLaw 7 PairIs pair_of
-unfolding pair_of
-pair_law = kept_law 7 Paired paired (λ v. v.bytes) (λ bs h. record { bytes = bs; ok = h }) paired_decides (λ bs f. f.0) (λ bs h. refl) pair_same
+pair_law = text_law 7 _ pair_laws
 
 pub label_law : (n : ℕ) → FieldLaw n (LabelIs n) (label_of n)
-unfolding label_of
-label_law n = kept_law n (Labelled n) (labelled n) (λ v. v.bytes) (λ bs h. record { bytes = bs; ok = h }) (labelled_decides n) (λ bs f. f.0) (λ bs h. refl) (label_same n)
+label_law n = text_law n _ (label_laws n)
 
 pub time_law : FieldLaw 9 TimeIs time_of
-unfolding time_of
-time_law = kept_law 9 Timed timed (λ v. v.bytes) (λ bs h. record { bytes = bs; ok = h }) timed_decides (λ bs f. f.0) (λ bs h. refl) time_same
+time_law = text_law 9 _ time_laws
 
 -- a test decides that it is true
 itself : (b : Bool) → Decides b (b ≡ true)
 itself b = (λ e. e, λ e. e)
 
-pub price_law : FieldLaw 10 PriceIs price_of
-unfolding price_of
-price_law =
-    law_like (λ bs v f. (record { long = f.0; decimal = f.1 }, f.2)) (λ bs v f. (f.0.long, f.0.decimal, f.1))
-    (counted_law 10 (Decimal 5) (decimal_of 5) PriceCount priced (λ (v : Price). v.count) (λ n h. record { count = n; ok = h }) (decimal_exact 5) (λ n. itself (priced n)) (λ n h. refl) price_same)
-
-pub amount_law : FieldLaw 16 AmountIs amount_of
-unfolding amount_of
-amount_law =
-    law_like (λ bs v f. (record { long = f.0; decimal = f.1 }, f.2)) (λ bs v f. (f.0.long, f.0.decimal, f.1))
-    (counted_law 16 (Decimal 2) (decimal_of 2) AmountCount amounted (λ (v : Amount). v.count) (λ n h. record { count = n; ok = h }) (decimal_exact 2) (λ n. itself (amounted n)) (λ n h. refl) amount_same)
-
 -- a decimal, or spaces, which count 0
-abbrev OrBlank : List ℕ → ℕ → Type 0
-OrBlank bs n = Decimal 2 bs n ⊎ (AllByRecursion Space bs × (n ≡ 0))
+abbrev OrBlank : ℕ → List ℕ → ℕ → Type 0
+OrBlank p bs n = Decimal p bs n ⊎ (AllByRecursion Space bs × (n ≡ 0))
 
-or_blank_exact : Exact OrBlank (λ bs. cond (spaced bs) (Some 0) (decimal_of 2 bs))
-or_blank_exact = record {
+or_blank_exact : (p : ℕ) → Exact (OrBlank p) (λ bs. cond (spaced bs) (Some 0) (decimal_of p bs))
+or_blank_exact p = record {
   sound = λ bs n e.
       ⊎_elim
       (λ t. let z : Some 0 ≡ Some n = sym (cond-true _ _ _ t) ∙ e in inr ((spaced_decides bs).0 t, cc))
-      (λ f. inl ((decimal_exact 2).sound bs n (sym (cond-false _ _ _ f) ∙ e)))
+      (λ f. inl ((decimal_exact p).sound bs n (sym (cond-false _ _ _ f) ∙ e)))
       (cases_Bool (spaced bs));
   complete = λ bs n h.
       ⊎_elim
       (λ d. ⊎_elim
-      (λ t. absurd (blank_none 2 bs n ((spaced_decides bs).0 t) d))
-      (λ f. cond-false _ _ _ f ∙ (decimal_exact 2).complete bs n d)
+      (λ t. absurd (blank_none p bs n ((spaced_decides bs).0 t) d))
+      (λ f. cond-false _ _ _ f ∙ (decimal_exact p).complete bs n d)
       (cases_Bool (spaced bs)))
       (λ b. cond-true _ _ _ ((spaced_decides bs).1 b.0) ∙ ap Some (sym b.1))
       h;
 }
 
+module _ {K : Type 0} (k : decimal_kind.Ghosts K) where
+  pub decimal_law : FieldLaw k.WIDTH (DecimalIs k) (decimal_value k)
+  unfolding decimal_value
+  decimal_law =
+      law_like
+      (λ bs v f. k.laws.is_field bs v.count (⊎_elim (λ d. inl (record { long = f.0; decimal = d })) (λ b. inr ((f.0, b.0), b.1)) f.1) f.2)
+      (λ bs v f.
+      let t = k.laws.is_text bs v.count f in
+      (⊎_elim (λ d. d.long) (λ b. b.0.0) t.0, ⊎_elim (λ d. inl d.decimal) (λ b. inr (b.0.1, b.1)) t.0, t.1))
+      (counted_law k.WIDTH (OrBlank k.PLACES) (λ bs. cond (spaced bs) (Some 0) (decimal_of k.PLACES bs)) (λ n. k.may n ≡ true) k.may (λ (v : Decimals K k). v.count) (λ n h. record { count = n; kind = record {}; ok = h }) (or_blank_exact k.PLACES) (λ n. itself (k.may n)) (λ n h. refl) (decimal_same k))
+
+pub price_law : FieldLaw 10 PriceIs price_of
+price_law = decimal_law _
+
+pub amount_law : FieldLaw 16 AmountIs amount_of
+amount_law = decimal_law _
+
 pub quantity_law : FieldLaw 16 QuantityIs quantity_of
-unfolding quantity_of
-quantity_law =
-    law_like
-    (λ bs v f. (⊎_elim (λ d. inl (record { long = f.0; decimal = d })) (λ b. inr ((f.0, b.0), b.1)) f.1, f.2))
-    (λ bs v f. (⊎_elim (λ d. d.long) (λ b. b.0.0) f.0, ⊎_elim (λ d. inl d.decimal) (λ b. inr (b.0.1, b.1)) f.0, f.1))
-    (counted_law 16 OrBlank (λ bs. cond (spaced bs) (Some 0) (decimal_of 2 bs)) QuantityCount (between 0 1000000000000000) (λ (v : Quantity). v.count) (λ n h. record { count = n; ok = h }) or_blank_exact (λ n. itself (between 0 1000000000000000 n)) (λ n h. refl) quantity_same)
+quantity_law = decimal_law _
 
 numbered_decides : (w n : ℕ) → Decides (numbered w n) (IntegerValue w n)
 numbered_decides w n = (numbered_value w n, λ h. (Decides-and _ _ (Decides-ltb 0 w) (Decides-and _ _ (decides_leb w 18) (Decides-ltb n (10 ^ w)))).1 (h.0, (h.1, h.2)))

@@ -2,18 +2,17 @@
 use Rattle.std.specs.Prelude.{◌≡◌, ℕ, ◌^◌, Bool, true, false, cond, ◌&&◌, List, [], ◌∷◌, length, Some, None, Option, ◌==◌, nat_le, nat_lt, slice_index, refl}
 use Rattle.std.specs.Option.{option_map}
 use Rattle.std.proofs.lemmas.Bool.{and_parts, ltb-true, leb-true}
-use Rattle.fields.specs.declared.values.Price.{Price}
-use Rattle.fields.specs.declared.values.Amount.{Amount}
-use Rattle.fields.specs.declared.values.Quantity.{Quantity}
-use Rattle.fields.specs.declared.values.Integer.{Integer}
-use Rattle.fields.specs.declared.values.Label.{Label}
-use Rattle.fields.specs.declared.values.Pair.{Pair}
-use Rattle.fields.specs.declared.values.TimeOfDay.{TimeOfDay}
+use Rattle.fields.specs.Values.{Price, Amount, Quantity, Label, Pair, TimeOfDay}
+use Rattle.fields.specs.declared.integers.Integer.{Integer}
+use Rattle.fields.specs.declared.decimals.Decimal.{Decimal}
+use Rattle.fields.specs.declared.decimals.DecimalKind as decimal_kind
+use Rattle.fields.specs.declared.texts.Text.{Text}
+use Rattle.fields.specs.declared.texts.TextKind as text_kind
+use Rattle.fields.specs.Texts.{Kept}
 use Rattle.std.specs.List.{AllByRecursion}
 use Rattle.digits.specs.Bytes.{Space}
 use Rattle.fields.specs.Fields.{PriceField, AmountField, QuantityField, IntegerField, LabelField, PairField, TimeField}
-use Rattle.fields.specs.Forms.{labelled, paired, timed}
-use Rattle.fields.specs.Ranges.{between, priced, amounted, IntegerValue}
+use Rattle.fields.specs.Ranges.{IntegerValue}
 use Rattle.book.specs.declared.order.Side.{Side}
 use Rattle.book.specs.declared.order.Side.TheVariants.{Bid, Offer}
 use Rattle.readers.specs.Numbers.{spaced, whole_of, decimal_of}
@@ -33,14 +32,8 @@ abbrev pub sized : {A : Type 0} → ℕ → List ℕ → Option A → Option A
 sized w bs given = cond (length bs == w) given None
 
 -- The values of these numbers.
-abbrev pub price_for : ℕ → Option Price
-price_for n = passing (priced n) (λ h. record { count = n; ok = h })
-
-abbrev pub amount_for : ℕ → Option Amount
-amount_for n = passing (amounted n) (λ h. record { count = n; ok = h })
-
-abbrev pub quantity_for : ℕ → Option Quantity
-quantity_for n = passing (between 0 1000000000000000 n) (λ h. record { count = n; ok = h })
+abbrev pub decimal_for : {K : Type 0} (k : decimal_kind.Ghosts K) → ℕ → Option (Decimal K k)
+decimal_for k n = passing (k.may n) (λ h. record { count = n; kind = record {}; ok = h })
 
 -- a field of 1 to 18 bytes, and a number that has no more digits
 abbrev pub numbered : ℕ → ℕ → Bool
@@ -59,25 +52,31 @@ integer_for w n = passing (numbered w n) (λ h. record { value = n; ok = numbere
 abbrev pub side_for : ℕ → Option Side
 side_for c = cond (c == 66) (Some Bid) (cond (c == 83) (Some Offer) None)
 
--- The values of these bytes.
-unfoldable pub pair_of : List ℕ → Option Pair
-pair_of bs = passing (paired bs) (λ h. record { bytes = bs; ok = h })
+-- The value of these bytes, for every kind. All spaces count 0.
+unfoldable pub decimal_value : {K : Type 0} (k : decimal_kind.Ghosts K) → List ℕ → Option (Decimal K k)
+decimal_value k bs = sized k.WIDTH bs (and_then (cond (spaced bs) (Some 0) (decimal_of k.PLACES bs)) (decimal_for k))
 
-unfoldable pub label_of : (n : ℕ) → List ℕ → Option (Label n)
-label_of n bs = passing (labelled n bs) (λ h. record { bytes = bs; ok = h })
+unfoldable pub text_value : {K : Type 0} (n : ℕ) (k : text_kind.Ghosts K n) → List ℕ → Option (Text K n k)
+text_value n k bs = passing (k.test bs) (λ h. record { bytes = bs; kind = record {}; ok = h })
 
-unfoldable pub time_of : List ℕ → Option TimeOfDay
-time_of bs = passing (timed bs) (λ h. record { bytes = bs; ok = h })
+-- The values by their names.
+abbrev pub pair_of : List ℕ → Option Pair
+pair_of = text_value 7 _
 
-unfoldable pub price_of : List ℕ → Option Price
-price_of bs = sized 10 bs (and_then (decimal_of 5 bs) price_for)
+abbrev pub label_of : (n : ℕ) → List ℕ → Option (Label n)
+label_of n = text_value n _
 
-unfoldable pub amount_of : List ℕ → Option Amount
-amount_of bs = sized 16 bs (and_then (decimal_of 2 bs) amount_for)
+abbrev pub time_of : List ℕ → Option TimeOfDay
+time_of = text_value 9 _
 
--- all spaces are no restriction, 0
-unfoldable pub quantity_of : List ℕ → Option Quantity
-quantity_of bs = sized 16 bs (and_then (cond (spaced bs) (Some 0) (decimal_of 2 bs)) quantity_for)
+abbrev pub price_of : List ℕ → Option Price
+price_of = decimal_value _
+
+abbrev pub amount_of : List ℕ → Option Amount
+amount_of = decimal_value _
+
+abbrev pub quantity_of : List ℕ → Option Quantity
+quantity_of = decimal_value _
 
 unfoldable pub integer_of : (w : ℕ) → List ℕ → Option (Integer w)
 integer_of w bs = sized w bs (and_then (whole_of bs) (integer_for w))
@@ -95,6 +94,12 @@ unfoldable pub optional_of : {A : Type 0} → ℕ → (List ℕ → Option A) �
 optional_of w f bs = cond (blank w bs) (Some None) (option_map Some (f bs))
 
 -- The same as relations: bs is the field of v.
+abbrev pub DecimalIs : {K : Type 0} (k : decimal_kind.Ghosts K) → List ℕ → Decimal K k → Type 0
+DecimalIs k bs v = k.field bs v.count
+
+abbrev pub TextIs : {K : Type 0} (n : ℕ) (k : text_kind.Ghosts K n) → List ℕ → Text K n k → Type 0
+TextIs n k bs v = Kept k.form bs v.bytes
+
 abbrev pub PairIs : List ℕ → Pair → Type 0
 PairIs bs v = PairField bs v.bytes
 

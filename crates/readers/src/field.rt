@@ -5,7 +5,9 @@ ghost use Rattle.readers.specs.Laws.{BlankFree, FieldLaw};
 // A value that stands in a field of fixed width.
 pub trait Field: Sized {
     // How many bytes the field has.
-    ghost wide: { ℕ };
+    const WIDTH: usize;
+
+    ghost WIDTH: { ℕ };
 
     // The bytes are the field of the value.
     ghost laid: { List ℕ → Self → Type 0 };
@@ -13,13 +15,10 @@ pub trait Field: Sized {
     // The value that the bytes are, or none.
     ghost reads: { List ℕ → Option Self };
 
-    fn width() -> usize
-        ensures { result ≡ wide };
-
     fn read(bytes: &[u8]) -> Option<Self>
         ensures { result ≡ reads bytes.now };
 
-    ghost exact: { FieldLaw wide laid reads };
+    ghost exact: { FieldLaw WIDTH laid reads };
 }
 
 // A field that is never all spaces, so that spaces can say that there is no value.

@@ -11,5 +11,5 @@ pub fn readers_hold()
 
 // So it is of any field that may be blank.
 pub fn optional_holds<F: Filled>()
-    ensures { FieldLaw F.Field.wide (OptionalIs F.Field.wide F.Field.laid) (optional_of F.Field.wide F.Field.reads) }
+    ensures { FieldLaw F.Field.WIDTH (OptionalIs F.Field.WIDTH F.Field.laid) (optional_of F.Field.WIDTH F.Field.reads) }
 {}

@@ -16,25 +16,21 @@ fn is_blank(bytes: &[u8], width: usize) -> bool
 
 // All spaces say that there is no value.
 impl<F: Filled> Field for Option<F> {
-    ghost wide = { F.Field.wide };
+    const WIDTH: usize = F::WIDTH;
 
-    ghost laid = { OptionalIs F.Field.wide F.Field.laid };
+    ghost WIDTH = { F.Field.WIDTH };
 
-    ghost reads = { optional_of F.Field.wide F.Field.reads };
+    ghost laid = { OptionalIs F.Field.WIDTH F.Field.laid };
 
-    ghost exact = { optional_law F.Field.wide F.Field.laid F.Field.reads F.Filled.filled F.Field.exact };
+    ghost reads = { optional_of F.Field.WIDTH F.Field.reads };
 
-    fn width() -> usize {
-        F::width()
-    }
+    ghost exact = { optional_law F.Field.WIDTH F.Field.laid F.Field.reads F.Filled.filled F.Field.exact };
 
     fn read(bytes: &[u8]) -> Option<Option<F>> {
-        if is_blank(bytes, F::width()) {
+        if is_blank(bytes, F::WIDTH) {
             return Some(None);
         }
-        match F::read(bytes) {
-            Some(v) => Some(Some(v)),
-            None => None,
-        }
+        let value = F::read(bytes)?;
+        Some(Some(value))
     }
 }

@@ -19,7 +19,9 @@ fn side_of(letter: u8) -> Option<Side>
 }
 
 impl Field for Side {
-    ghost wide = { 1 };
+    const WIDTH: usize = 1;
+
+    ghost WIDTH = { 1 };
 
     ghost laid = { SideIs };
 
@@ -27,15 +29,11 @@ impl Field for Side {
 
     ghost exact = { side_law };
 
-    fn width() -> usize {
-        1
-    }
-
     fn read(bytes: &[u8]) -> Option<Side> {
-        if bytes.len() != 1 {
+        let [letter] = bytes else {
             return None;
-        }
-        side_of(bytes[0])
+        };
+        side_of(*letter)
     }
 }
 

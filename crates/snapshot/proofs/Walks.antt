@@ -1,10 +1,8 @@
 -- How walks join, and what the fields say of the scans.
 use Rattle.std.proofs.Common.{◌≡◌, ℕ, zero, suc, ◌+◌, ◌-◌, ◌<◌, ◌≤◌, Bool, true, false, cond, eqb, List, [], ◌∷◌, ◌++◌, length, Ok, Err, Option, Result, sym, refl, ap, ◌∙◌, subst, sub-one, arith}
 use Rattle.std.proofs.lemmas.Bool.{cond-true, cond-false}
-use Rattle.fields.specs.declared.values.Pair.{Pair}
-use Rattle.fields.specs.declared.values.Price.{Price}
-use Rattle.fields.specs.declared.values.Amount.{Amount}
-use Rattle.fields.specs.declared.values.Integer.{Integer}
+use Rattle.fields.specs.Values.{Pair, Price, Amount}
+use Rattle.fields.specs.declared.integers.Integer.{Integer}
 use Rattle.book.specs.Ladder.{OrderId}
 use Rattle.book.specs.declared.order.Side.{Side}
 use Rattle.book.specs.declared.order.Side.TheVariants.{Bid, Offer}

@@ -1,6 +1,6 @@
 -- A snapshot checked whole, repeats included.
 use Rattle.std.specs.Prelude.{◌≡◌, ℕ, ◌+◌, ◌≤◌, Bool, cond, List, [], length, Some, None, Ok, Err, Option, Result}
-use Rattle.fields.specs.declared.values.Pair.{Pair}
+use Rattle.fields.specs.Values.{Pair}
 use Rattle.book.specs.declared.order.Order.{Order}
 use Rattle.venue.specs.Form as venue
 use Rattle.message.specs.declared.fault.MessageFault.{MessageFault}

@@ -1,8 +1,7 @@
 -- Where the reading of a snapshot stops: at the first check that fails, in layout order, with the fault of that check.
 use Rattle.std.specs.Prelude.{◌≡◌, ℕ, zero, suc, ◌+◌, ◌<◌, ◌≤◌, Bool, ◌⊎◌, List, [], ◌∷◌, ◌++◌, length, take, drop, Err, MatchBool, ◌≢◌}
-use Rattle.fields.specs.declared.values.Pair.{Pair}
-use Rattle.fields.specs.declared.values.Price.{Price}
-use Rattle.fields.specs.declared.values.Integer.{Integer}
+use Rattle.fields.specs.Values.{Pair, Price}
+use Rattle.fields.specs.declared.integers.Integer.{Integer}
 use Rattle.book.specs.declared.order.Side.{Side}
 use Rattle.book.specs.declared.order.Side.TheVariants.{Bid, Offer}
 use Rattle.readers.specs.Values.{PairIs, LabelIs, PriceIs, AmountIs, IntegerIs}

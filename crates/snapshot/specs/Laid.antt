@@ -1,8 +1,7 @@
 -- Which bytes lay out which snapshot: the counted blocks, as the tables of layouts have them.
 use Rattle.std.specs.Prelude.{◌≡◌, ℕ, zero, suc, ◌+◌, ◌<◌, List, [], ◌∷◌, ◌++◌, length, Ok, MatchBool}
-use Rattle.fields.specs.declared.values.Pair.{Pair}
-use Rattle.fields.specs.declared.values.Price.{Price}
-use Rattle.fields.specs.declared.values.Integer.{Integer}
+use Rattle.fields.specs.Values.{Pair, Price}
+use Rattle.fields.specs.declared.integers.Integer.{Integer}
 use Rattle.book.specs.declared.order.Side.{Side}
 use Rattle.book.specs.declared.order.Side.TheVariants.{Bid, Offer}
 use Rattle.readers.specs.Values.{PairIs, LabelIs, PriceIs, AmountIs, IntegerIs}

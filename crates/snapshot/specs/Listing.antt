@@ -1,6 +1,6 @@
 -- What a snapshot does to a ladder.
 use Rattle.std.specs.Prelude.{ℕ, ◌+◌, Bool, false, ◌||◌, List, [], ◌∷◌, length}
-use Rattle.fields.specs.declared.values.Pair.{Pair}
+use Rattle.fields.specs.Values.{Pair}
 use Rattle.book.specs.Ladder.{same_pair, cleared, placed_all}
 use Rattle.book.specs.declared.order.Order.{Order}
 use Rattle.snapshot.specs.declared.mark.Mark.{Mark}

@@ -1,8 +1,8 @@
 -- Look-ups in the bytes of a snapshot: what is asked of them.
 use Rattle.std.specs.Prelude.{◌≡◌, ℕ, zero, suc, ◌+◌, ◌≤◌, Bool, true, false, cond, ◌&&◌, ◌||◌, List, [], ◌∷◌, Ok, Err, nat_lt}
 use Rattle.std.specs.Str.{bytes_eq}
-use Rattle.fields.specs.declared.values.Pair.{Pair}
-use Rattle.fields.specs.declared.values.Integer.{Integer}
+use Rattle.fields.specs.Values.{Pair}
+use Rattle.fields.specs.declared.integers.Integer.{Integer}
 use Rattle.book.specs.declared.order.Side.TheVariants.{Bid, Offer}
 use Rattle.readers.specs.Values.{integer_of}
 use Rattle.venue.specs.Form as venue

@@ -1,9 +1,7 @@
 -- What a snapshot lists, in layout order, each pair and order with its offset.
 use Rattle.std.specs.Prelude.{ℕ, ◌-◌, cond, List, [], ◌∷◌, length, Ok, Err, ◌==◌}
-use Rattle.fields.specs.declared.values.Pair.{Pair}
-use Rattle.fields.specs.declared.values.Price.{Price}
-use Rattle.fields.specs.declared.values.Amount.{Amount}
-use Rattle.fields.specs.declared.values.Integer.{Integer}
+use Rattle.fields.specs.Values.{Pair, Price, Amount}
+use Rattle.fields.specs.declared.integers.Integer.{Integer}
 use Rattle.book.specs.Ladder.{OrderId}
 use Rattle.book.specs.declared.order.Side.{Side}
 use Rattle.book.specs.declared.order.Side.TheVariants.{Bid, Offer}

@@ -2,7 +2,7 @@
 // which they are asked.
 ghost use Rattle.std.specs.Prelude.{◌≡◌, ◌+◌, ◌<◌, ◌≤◌, length, Decides};
 ghost use Rattle.message.specs.Reading.{field};
-ghost use Rattle.fields.specs.declared.values.Pair.{Pair};
+ghost use Rattle.fields.specs.Values.{Pair};
 ghost use Rattle.book.specs.declared.order.Side.{Side};
 ghost use Rattle.snapshot.specs.Scanning.{times};
 ghost use Rattle.snapshot.specs.Skims.{Skims, Ends, PutsId, ListsPair, id_offset, order_width, count_in, strided, sides_at};

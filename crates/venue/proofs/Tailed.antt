@@ -1,7 +1,6 @@
 -- What each venue reads and writes are the tails of its terms.
 use Rattle.std.proofs.Common.{◌≡◌, ℕ, List, [], ◌∷◌, length, take, drop, Some, None, Ok, Err, Option, sym, refl, ap, ◌∙◌, ap₂, arith, length-drop, take_all}
-use Rattle.fields.specs.declared.values.Quantity.{Quantity}
-use Rattle.fields.specs.declared.values.Label.{Label}
+use Rattle.fields.specs.Values.{Quantity, Label}
 use Rattle.fields.proofs.Codecs.{label_codec}
 use Rattle.readers.specs.Values.{label_of, quantity_of}
 use Rattle.readers.specs.Lawful.{label_law, quantity_law}

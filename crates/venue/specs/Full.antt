@@ -5,7 +5,7 @@ use Rattle.std.specs.List.{AllByRecursion}
 use Rattle.std.proofs.ByRecursion.{All-append}
 use Rattle.fields.specs.Bytes.{Printable}
 use Rattle.fields.specs.Fields.{quantity_text}
-use Rattle.fields.specs.declared.values.Quantity.{Quantity}
+use Rattle.fields.specs.Values.{Quantity}
 use Rattle.fields.proofs.Codecs.{quantity_codec}
 use Rattle.readers.specs.Values.{quantity_of}
 use Rattle.readers.specs.Lawful.{quantity_law}

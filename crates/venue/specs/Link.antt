@@ -1,7 +1,7 @@
 -- Link Direct: the tail is the maker.
 use Rattle.std.specs.Prelude.{◌≡◌, ℕ, ◌<◌, true, false, List, length, Some, None, Ok, Err, Option, Result}
 use Rattle.std.proofs.Common.{ap, arith}
-use Rattle.fields.specs.declared.values.Label.{Label}
+use Rattle.fields.specs.Values.{Label}
 use Rattle.fields.proofs.Codecs.{label_codec}
 use Rattle.readers.specs.Values.{label_of}
 use Rattle.readers.specs.Lawful.{label_law}

@@ -4,8 +4,7 @@ use Rattle.std.proofs.Common.{sym, subst, ◌∙◌, ⊎_elim}
 use Rattle.std.proofs.lemmas.Bool.{cases_Bool, cond-true, cond-false}
 use Rattle.fields.specs.Forms.{labelled}
 use Rattle.fields.specs.Ranges.{between, QuantityCount}
-use Rattle.fields.specs.declared.values.Quantity.{Quantity}
-use Rattle.fields.specs.declared.values.Label.{Label}
+use Rattle.fields.specs.Values.{Quantity, Label}
 use Rattle.fields.proofs.Sames.{quantity_same, label_same}
 use Rattle.venue.specs.Rows.{kept, unknown, quantity_given, maker_given}
 

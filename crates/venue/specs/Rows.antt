@@ -3,8 +3,7 @@ use Rattle.std.specs.Prelude.{◌≡◌, ℕ, Bool, true, cond, List, replicate,
 use Rattle.std.proofs.lemmas.Bool.{cond_both}
 use Rattle.fields.specs.Forms.{labelled}
 use Rattle.fields.specs.Ranges.{between}
-use Rattle.fields.specs.declared.values.Quantity.{Quantity}
-use Rattle.fields.specs.declared.values.Label.{Label}
+use Rattle.fields.specs.Values.{Quantity, Label}
 
 -- x where it passes the test, and else the fixed value
 abbrev pub kept : {X : Type 0} → (X → Bool) → X → X → X
@@ -15,7 +14,7 @@ kept_passes test fixed x h = cond_both (test x) x fixed (λ y. test y ≡ true) 
 
 -- the quantity of a count; else 0, no restriction
 unfoldable pub quantity_given : ℕ → Quantity
-quantity_given n = record { count = kept (between 0 1000000000000000) 0 n; ok = kept_passes (between 0 1000000000000000) 0 n refl }
+quantity_given n = record { count = kept (between 0 1000000000000000) 0 n; kind = record {}; ok = kept_passes (between 0 1000000000000000) 0 n refl }
 
 -- sixteen question marks
 abbrev pub unknown : List ℕ
@@ -27,4 +26,4 @@ unknown_labelled = refl
 
 -- the maker of these bytes; else the unknown one
 unfoldable pub maker_given : List ℕ → Label 16
-maker_given bs = record { bytes = kept (labelled 16) unknown bs; ok = kept_passes (labelled 16) unknown bs unknown_labelled }
+maker_given bs = record { bytes = kept (labelled 16) unknown bs; kind = record {}; ok = kept_passes (labelled 16) unknown bs unknown_labelled }

@@ -1,6 +1,6 @@
 -- Which bytes are the tail of which terms, at each venue; and what is proved of it.
 use Rattle.std.specs.Prelude.{◌≡◌, ℕ, List, [], length, take, drop, Ok, Err}
-use Rattle.fields.specs.declared.values.Quantity.{Quantity}
+use Rattle.fields.specs.Values.{Quantity}
 use Rattle.readers.specs.Values.{LabelIs, QuantityIs}
 use Rattle.venue.specs.Form.{Form}
 use Rattle.venue.specs.Basic.{basic_form}

@@ -1,7 +1,7 @@
 use Rattle.std.proofs.Common.{◌≡◌, true, refl, subst}
 use Rattle.fields.specs.Forms.{paired, labelled}
 use Rattle.fields.specs.Ranges.{PriceCount, AmountCount}
-use Rattle.fields.proofs.Tests.{paired_decides, labelled_decides}
+use Rattle.fields.specs.Tests.{paired_decides, labelled_decides}
 use Rattle.fields.proofs.Sames.{pair_same, label_same, price_same, amount_same}
 use Rattle.book.specs.Rows.{whole_order, Formed}
 use Rattle.book.specs.Packing.{same_order}

@@ -1,5 +1,5 @@
 use Rattle.std.proofs.Common.{ℕ}
-use Rattle.fields.specs.declared.values.Pair.{Pair}
+use Rattle.fields.specs.Values.{Pair}
 use Rattle.book.specs.declared.order.Side.{Side}
 use Rattle.snapshot.specs.Scanning.{times}
 use Rattle.snapshot.specs.Snapshot.{level_at}

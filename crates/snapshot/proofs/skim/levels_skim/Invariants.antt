@@ -1,4 +1,4 @@
-use Rattle.fields.specs.declared.values.Pair.{Pair}
+use Rattle.fields.specs.Values.{Pair}
 use Rattle.book.specs.declared.order.Side.{Side}
 use Rattle.snapshot.specs.declared.skim.Skim.{Skim}
 use Rattle.snapshot.specs.Scanning.{times}

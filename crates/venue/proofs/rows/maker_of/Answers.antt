@@ -1,5 +1,5 @@
 use Rattle.std.proofs.Common.{refl}
-use Rattle.fields.proofs.Tests.{labelled_decides}
+use Rattle.fields.specs.Tests.{labelled_decides}
 use Rattle.venue.specs.Remade.{maker_given_back, maker_fixed}
 use Rattle.venue.proofs.rows.maker_of.Goals as goal
 

@@ -2,8 +2,8 @@ use Rattle.std.proofs.Common.{◌≡◌, true, is_ok, Ok, Err, Result, refl}
 use Rattle.fields.specs.Calls.{Reads}
 use Rattle.fields.specs.Fields.{LabelField}
 use Rattle.fields.specs.declared.fault.Fault.{Fault}
-use Rattle.fields.specs.declared.values.Label.{Label}
-use Rattle.fields.proofs.Tests.{labelled_decides}
+use Rattle.fields.specs.Values.{Label}
+use Rattle.fields.specs.Tests.{labelled_decides}
 use Rattle.venue.specs.Rows.{unknown, unknown_labelled}
 use Rattle.venue.proofs.rows.unknown_maker.Goals as goal
 

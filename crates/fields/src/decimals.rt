@@ -1,0 +1,163 @@
+// Decimals of a fixed width: prices, amounts and quantities.
+ghost use Rattle.std.specs.Prelude.{◌≡◌, ℕ, Bool, ◌≤◌, true, List, replicate, Decides};
+ghost use Rattle.digits.specs.Calls.{Only};
+ghost use Rattle.fields.specs.Calls.{Found, Makes, Reads, Writes};
+ghost use Rattle.fields.specs.Decimals.{Blank, CountText, KindLaws};
+ghost use Rattle.fields.specs.Ranges.{between};
+
+use crate::bytes;
+use crate::fault::Fault;
+use digits::{DecimalForm, DecimalText};
+use std::alloc::AllocError;
+use std::marker::PhantomData;
+
+// As many spaces as the widest field has bytes.
+const SPACES: [u8; 18] = [b' '; 18];
+
+// A kind of decimals: how wide its field is, how many places it may have, and which counts of the last place.
+pub trait DecimalKind {
+    const WIDTH: usize;
+
+    const PLACES: usize;
+
+    const LEAST: u64;
+
+    const MOST: u64;
+
+    ghost WIDTH: { ℕ };
+
+    ghost PLACES: { ℕ };
+
+    ghost LEAST: { ℕ };
+
+    ghost MOST: { ℕ };
+
+    // Whether a value may have the count.
+    ghost may: { ℕ → Bool };
+
+    // The bytes are the field of a value of this count.
+    ghost field: { List ℕ → ℕ → Type 0 };
+
+    // What is written of the count.
+    ghost text: { ℕ → List ℕ };
+
+    ghost laws: { KindLaws WIDTH PLACES LEAST MOST may field text };
+}
+
+// A decimal of a kind, counted in units of its last place.
+#[derive_where(PartialEq, Eq, Debug)]
+pub struct Decimal<K: DecimalKind> {
+    count: u64,
+    #[derive_where(skip(EqHashOrd))]
+    kind: PhantomData<K>,
+    ghost ok: { K.may count ≡ true },
+}
+
+impl<K: DecimalKind> Copy for Decimal<K> {}
+
+impl<K: DecimalKind> Clone for Decimal<K> {
+    fn clone(&self) -> Result<Decimal<K>, AllocError> {
+        Ok(*self)
+    }
+}
+
+// Whether `n` lies between two bounds, both included.
+fn lies_between(least: u64, most: u64, n: u64) -> bool
+    ensures { result ≡ between least most n }
+{
+    least <= n && n <= most
+}
+
+// The count 0, where the bytes are `width` spaces.
+fn zero_in(bytes: &[u8], width: usize) -> Option<u64>
+    ensures { Only (λ n. Blank width bytes.now × (n ≡ 0)) result }
+{
+    if bytes.len() == width && digits::spaces(bytes, 0) {
+        Some(0)
+    } else {
+        None
+    }
+}
+
+fn spaces(width: usize) -> &'static [u8]
+    requires { width ≤ 18 }
+    ensures { result.now ≡ replicate width 32 }
+{
+    &SPACES[0..width]
+}
+
+// Writes `width` spaces at `at`.
+fn put_blank(out: &mut [u8], at: usize, width: usize) -> Result<(), Fault>
+    requires { width ≤ 18 }
+    ensures { Writes (replicate width 32) out.old at result out.new }
+{
+    bytes::put(out, at, spaces(width))
+}
+
+// The count that the bytes write; spaces write 0.
+fn count_in<K: DecimalKind>(bytes: &[u8]) -> Option<u64>
+    ensures { Only (CountText K.WIDTH K.PLACES bytes.now) result }
+{
+    let form = DecimalForm {
+        width: K::WIDTH,
+        places: K::PLACES,
+    };
+    zero_in(bytes, K::WIDTH).or(form.find(bytes))
+}
+
+// The value whose field the bytes are.
+fn find<K: DecimalKind>(bytes: &[u8]) -> Option<Decimal<K>>
+    ensures { Found K.field (λ (d : Decimal K K.DecimalKind). d.count) bytes.now result }
+{
+    Decimal::from_count(count_in::<K>(bytes)?)
+}
+
+impl<K: DecimalKind> Decimal<K> {
+    // The value whose field the bytes are.
+    pub fn read(bytes: &[u8]) -> Result<Decimal<K>, Fault>
+        ensures { Reads K.field (λ (d : Decimal K K.DecimalKind). d.count) bytes.now result }
+    {
+        find::<K>(bytes).ok_or(Fault::NotInForm)
+    }
+
+    // Writes it to its field at `at`.
+    pub fn write(&self, out: &mut [u8], at: usize) -> Result<(), Fault>
+        ensures { Writes (K.text self.now.count) out.old at result out.new }
+    {
+        if self.count == 0 {
+            return put_blank(out, at, K::WIDTH);
+        }
+        let (count, width, places) = (self.count, K::WIDTH, K::PLACES);
+        let text = DecimalText {
+            count,
+            width,
+            places,
+        };
+        if text.write(out, at) {
+            Ok(())
+        } else {
+            Err(Fault::NoRoom)
+        }
+    }
+
+    // The value of this count.
+    pub fn from_count(count: u64) -> Option<Decimal<K>>
+        ensures { Makes (λ n. K.may n ≡ true) (λ (d : Decimal K K.DecimalKind). d.count) count result }
+    {
+        if lies_between(K::LEAST, K::MOST, count) {
+            Some(Decimal {
+                count,
+                kind: PhantomData,
+            })
+        } else {
+            None
+        }
+    }
+
+    // In units of the last place.
+    pub fn count(&self) -> u64
+        ensures { result ≡ self.now.count }
+    {
+        self.count
+    }
+}

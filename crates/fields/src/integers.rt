@@ -1,0 +1,75 @@
+// Integers of at most 18 digits.
+ghost use Rattle.std.specs.Prelude.{◌≡◌, Decides};
+ghost use Rattle.fields.specs.Calls.{Found, Makes, Reads, Writes};
+ghost use Rattle.fields.specs.Fields.{IntegerField, integer_text};
+ghost use Rattle.fields.specs.Ranges.{IntegerValue};
+
+use crate::fault::Fault;
+use digits::IntegerText;
+
+// A number of at most `W` digits.
+#[derive(Clone, Copy, PartialEq, Eq, Debug)]
+pub struct Integer<const W: usize> {
+    value: u64,
+    ghost ok: { IntegerValue W value },
+}
+
+// Whether `n` has at most `width` digits.
+fn fits(n: u64, width: usize) -> bool
+    ensures { Decides result (IntegerValue width n) }
+{
+    0 < width && width <= 18 && n < 10u64.pow(width as u32)
+}
+
+// The integer whose field the bytes are.
+fn find<const W: usize>(bytes: &[u8]) -> Option<Integer<W>>
+    ensures { Found (IntegerField W) (λ (n : Integer W). n.value) bytes.now result }
+{
+    if bytes.len() != W {
+        return None;
+    }
+    let value = digits::read_integer(bytes)?;
+    Some(Integer { value })
+}
+
+impl<const W: usize> Integer<W> {
+    // The integer whose field the bytes are.
+    pub fn read(bytes: &[u8]) -> Result<Integer<W>, Fault>
+        ensures { Reads (IntegerField W) (λ (n : Integer W). n.value) bytes.now result }
+    {
+        find::<W>(bytes).ok_or(Fault::NotInForm)
+    }
+
+    // Writes it to its field at `at`.
+    pub fn write(&self, out: &mut [u8], at: usize) -> Result<(), Fault>
+        ensures { Writes (integer_text W self.now.value) out.old at result out.new }
+    {
+        let text = IntegerText {
+            value: self.value,
+            width: W,
+        };
+        if text.write(out, at) {
+            Ok(())
+        } else {
+            Err(Fault::NoRoom)
+        }
+    }
+
+    // The integer of this value.
+    pub fn from_value(value: u64) -> Option<Integer<W>>
+        ensures { Makes (IntegerValue W) (λ (n : Integer W). n.value) value result }
+    {
+        if fits(value, W) {
+            Some(Integer { value })
+        } else {
+            None
+        }
+    }
+
+    // The number.
+    pub fn value(&self) -> u64
+        ensures { result ≡ self.now.value }
+    {
+        self.value
+    }
+}

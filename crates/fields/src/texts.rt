@@ -1,0 +1,79 @@
+// Fields that are kept as their bytes: labels, pairs and times of day.
+ghost use Rattle.std.specs.Prelude.{◌≡◌, ℕ, Bool, true, List, Decides};
+ghost use Rattle.fields.specs.Calls.{Found, Reads, Writes};
+ghost use Rattle.fields.specs.Texts.{Kept, TextLaws};
+
+use crate::bytes;
+use crate::fault::Fault;
+use std::alloc::AllocError;
+use std::marker::PhantomData;
+
+// A kind of texts of `N` bytes: which bytes are such a text.
+pub trait TextKind<const N: usize> {
+    // The form in words, and the test of it.
+    ghost form: { List ℕ → Type 0 };
+
+    ghost test: { List ℕ → Bool };
+
+    fn is_text(bytes: &[u8]) -> bool
+        ensures { Decides result (form bytes.now) };
+
+    ghost laws: { TextLaws N form test };
+}
+
+// A text of a kind.
+#[derive_where(PartialEq, Eq, PartialOrd, Ord, Debug)]
+pub struct Text<K: TextKind<N>, const N: usize> {
+    bytes: [u8; N],
+    #[derive_where(skip(EqHashOrd))]
+    kind: PhantomData<K>,
+    ghost ok: { K.test bytes ≡ true },
+}
+
+impl<K: TextKind<N>, const N: usize> Copy for Text<K, N> {}
+
+impl<K: TextKind<N>, const N: usize> Clone for Text<K, N> {
+    fn clone(&self) -> Result<Text<K, N>, AllocError> {
+        Ok(Text {
+            bytes: self.bytes,
+            kind: PhantomData,
+        })
+    }
+}
+
+// The text that the bytes are.
+fn find<K: TextKind<N>, const N: usize>(bytes: &[u8]) -> Option<Text<K, N>>
+    ensures { Found (Kept K.form) (λ (t : Text K N K.TextKind). t.bytes) bytes.now result }
+{
+    if !K::is_text(bytes) {
+        return None;
+    }
+    let bytes = <[u8; N]>::try_from(bytes).ok()?;
+    Some(Text {
+        bytes,
+        kind: PhantomData,
+    })
+}
+
+impl<K: TextKind<N>, const N: usize> Text<K, N> {
+    // The text whose field the bytes are.
+    pub fn read(bytes: &[u8]) -> Result<Text<K, N>, Fault>
+        ensures { Reads (Kept K.form) (λ (t : Text K N K.TextKind). t.bytes) bytes.now result }
+    {
+        find::<K, N>(bytes).ok_or(Fault::NotInForm)
+    }
+
+    // Writes it to its field at `at`.
+    pub fn write(&self, out: &mut [u8], at: usize) -> Result<(), Fault>
+        ensures { Writes self.now.bytes out.old at result out.new }
+    {
+        bytes::put(out, at, &self.bytes)
+    }
+
+    // Its bytes.
+    pub fn bytes(&self) -> [u8; N]
+        ensures { result ≡ self.now.bytes }
+    {
+        self.bytes
+    }
+}
