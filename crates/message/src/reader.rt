@@ -20,9 +20,9 @@ fn part(m: &[u8], at: usize, width: usize) -> Result<&[u8], MessageFault>
 
 // The value of the field at `at`.
 pub fn value<F: Field>(m: &[u8], at: usize) -> Result<F, MessageFault>
-    ensures { result ≡ value_at m.now F.wide F.reads at }
+    ensures { result ≡ value_at m.now F.WIDTH F.reads at }
 {
-    let bytes = part(m, at, F::width())?;
+    let bytes = part(m, at, F::WIDTH)?;
     match F::read(bytes) {
         Some(value) => Ok(value),
         None => Err(MessageFault::BadField(at)),

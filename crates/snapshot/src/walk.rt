@@ -15,10 +15,10 @@ use venue::Venue;
 
 // The value at `at`, and the offset after it.
 fn next<F: Field>(m: &[u8], at: usize) -> Result<(F, usize), MessageFault>
-    ensures { result ≡ field_at m.now F.wide F.reads at }
+    ensures { result ≡ field_at m.now F.WIDTH F.reads at }
 {
     let value = message::value::<F>(m, at)?;
-    Ok((value, at + F::width()))
+    Ok((value, at + F::WIDTH))
 }
 
 // The terms at `at`, and the offset after them.
