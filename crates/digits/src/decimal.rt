@@ -4,6 +4,7 @@ ghost use Rattle.digits.specs.Calls.{Only, Puts};
 ghost use Rattle.digits.specs.Numerals.{Decimal, DecimalField, pointed};
 ghost use Rattle.digits.specs.Written.{decimals, written, padded};
 
+use crate::room::NoRoom;
 use crate::texts::{DecimalForm, DecimalText};
 use crate::{bytes, runs};
 
@@ -114,14 +115,12 @@ fn fill(out: &mut [u8], n: u64, places: usize)
 }
 
 impl DecimalText {
-    // Writes it, and spaces up to its width, at `at`; false where it has no room.
-    pub fn write(&self, out: &mut [u8], at: usize) -> bool
+    // Writes it, and spaces up to its width, at `at`.
+    pub fn write(&self, out: &mut [u8], at: usize) -> Result<(), NoRoom>
         ensures { Puts (padded self.now.width (written self.now.places self.now.count)) out.old at result out.new }
     {
-        let Some(end) = bytes::field_end(out.len(), at, self.width) else {
-            return false;
-        };
+        let end = bytes::field_end(out.len(), at, self.width)?;
         fill(&mut out[at..end], self.count, self.places);
-        true
+        Ok(())
     }
 }

@@ -4,6 +4,7 @@ ghost use Rattle.digits.specs.Calls.{Only, Puts};
 ghost use Rattle.digits.specs.Numerals.{Whole};
 ghost use Rattle.digits.specs.Written.{justified};
 
+use crate::room::NoRoom;
 use crate::texts::IntegerText;
 use crate::{bytes, runs};
 
@@ -48,14 +49,12 @@ fn fill(out: &mut [u8], n: u64)
 }
 
 impl IntegerText {
-    // Writes it, after spaces, at `at`; false where it has no room.
-    pub fn write(&self, out: &mut [u8], at: usize) -> bool
+    // Writes it, after spaces, at `at`.
+    pub fn write(&self, out: &mut [u8], at: usize) -> Result<(), NoRoom>
         ensures { Puts (justified self.now.width (figures self.now.value)) out.old at result out.new }
     {
-        let Some(end) = bytes::field_end(out.len(), at, self.width) else {
-            return false;
-        };
+        let end = bytes::field_end(out.len(), at, self.width)?;
         fill(&mut out[at..end], self.value);
-        true
+        Ok(())
     }
 }

@@ -55,9 +55,5 @@ pub(crate) fn write(
         width,
         places,
     };
-    if text.write(out, at) {
-        Ok(())
-    } else {
-        Err(Fault::NoRoom)
-    }
+    Ok(text.write(out, at)?)
 }

@@ -34,9 +34,5 @@ pub(crate) fn write(out: &mut [u8], at: usize, width: usize, n: u64) -> Result<(
     ensures { Writes (justified width (figures n)) out.old at result out.new }
 {
     let text = IntegerText { value: n, width };
-    if text.write(out, at) {
-        Ok(())
-    } else {
-        Err(Fault::NoRoom)
-    }
+    Ok(text.write(out, at)?)
 }

@@ -4,5 +4,5 @@ use Rattle.digits.proofs.bytes.put.Goals as goal
 
 pub returns : goal.returns
 returns c =
-    let e = c.in-Some.ensures in
-    field_filled c.args.at c.in-Some.end _ c.args.out.now e.0 e.1 _ c.args.text.now refl c.copy_from_slice.ensures.after
+    let e = c.in_ok-end.ensures in
+    field_filled c.args.at c.in_ok-end.end _ c.args.out.now e.0 e.1 _ c.args.text.now refl c.copy_from_slice.ensures.after
