@@ -1,19 +1,14 @@
 // Decimals of any width and number of places.
-ghost use Rattle.std.specs.Prelude.{◌≡◌, ◌+◌, ◌*◌, ◌^◌, ◌<◌, ◌≤◌, ◌++◌, length, take, Decides, slice_index, slice_set};
+ghost use Rattle.std.specs.Prelude.{◌≡◌, ◌≢◌, ℕ, ◌+◌, ◌*◌, ◌^◌, ◌<◌, ◌≤◌, ◌++◌, List, ◌∷◌, length, take, Decides, MatchOption, slice_index, slice_set};
+ghost use Rattle.std.specs.List.{AllByRecursion};
+ghost use Rattle.digits.specs.Bytes.{Space};
 ghost use Rattle.digits.specs.Calls.{Only, Puts};
-ghost use Rattle.digits.specs.Numerals.{Decimal, DecimalField, pointed};
+ghost use Rattle.digits.specs.Numerals.{Decimal, DecimalField, Part, pointed};
 ghost use Rattle.digits.specs.Written.{decimals, written, padded};
 
 use crate::room::NoRoom;
 use crate::texts::{DecimalForm, DecimalText};
 use crate::{bytes, runs};
-
-// Whether there are digits after the point, and no more than the places.
-fn some_but_few(few: usize, places: usize) -> bool
-    ensures { Decides result ((0 < few) × (few ≤ places)) }
-{
-    few > 0 && few <= places
-}
 
 // `n` units of a place with `left` places after it, in units of the last.
 fn scaled(n: u64, left: usize) -> u64
@@ -23,10 +18,36 @@ fn scaled(n: u64, left: usize) -> u64
     n * 10u64.pow(left as u32)
 }
 
-fn is_point(s: &[u8], at: usize) -> bool
-    ensures { Decides result ((at < length s.now) × (slice_index s.now at ≡ 46)) }
+// What stands behind the point that `s` begins with, or none where it begins with none.
+fn after_point(s: &[u8]) -> Option<&[u8]>
+    ensures { MatchOption result ((rest : List ℕ) → s.now ≢ 46 ∷ rest) (λ rest. s.now ≡ 46 ∷ rest.now) }
 {
-    at < s.len() && s[at] == b'.'
+    s.strip_prefix(b".")
+}
+
+// Whether there is a digit, and only spaces behind the digits.
+fn some_then_spaces(digits: &[u8], pad: &[u8]) -> bool
+    ensures { Decides result ((0 < length digits.now) × AllByRecursion Space pad.now) }
+{
+    !digits.is_empty() && runs::spaces(pad, 0)
+}
+
+// The digits behind a point, where `s` is a point and digits, or nothing, and then spaces.
+fn find_part(s: &[u8]) -> Option<&[u8]>
+    ensures { MatchOption result ((part : List ℕ) → Part s.now part → ⊥) (λ part. Part s.now part.now) }
+{
+    let Some(after) = after_point(s) else {
+        return runs::spaces(s, 0).then_some(&s[..0]);
+    };
+    let (part, pad) = runs::cut_digits(after);
+    some_then_spaces(part, pad).then_some(part)
+}
+
+// Whether there are digits before the point, and no more than the places behind it.
+fn some_and_few(whole: &[u8], part: &[u8], places: usize) -> bool
+    ensures { Decides result ((0 < length whole.now) × (length part.now ≤ places)) }
+{
+    !whole.is_empty() && part.len() <= places
 }
 
 // The count of the decimal that `s` holds, in units of the last of the places, or none if it holds none.
@@ -34,22 +55,13 @@ fn count(s: &[u8], places: usize) -> Option<u64>
     requires { length s.now + places ≤ 18 }
     ensures { Only (Decimal places s.now) result }
 {
-    let (end, whole) = runs::run(s, 0, 0);
-    if end == 0 {
+    let (whole, rest) = runs::cut_digits(s);
+    let part = find_part(rest)?;
+    if !some_and_few(whole, part, places) {
         return None;
     }
-    if !is_point(s, end) {
-        if !runs::spaces(s, end) {
-            return None;
-        }
-        return Some(scaled(whole, places));
-    }
-    let (stop, all) = runs::run(s, end + 1, whole);
-    let few = stop - (end + 1);
-    if !some_but_few(few, places) || !runs::spaces(s, stop) {
-        return None;
-    }
-    Some(scaled(all, places - few))
+    let n = runs::number(runs::number(0, whole), part);
+    Some(scaled(n, places - part.len()))
 }
 
 impl DecimalForm {

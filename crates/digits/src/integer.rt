@@ -8,34 +8,15 @@ use crate::room::NoRoom;
 use crate::texts::IntegerText;
 use crate::{bytes, runs};
 
-// Whether there are digits from `at` to `end`, and these end the `len` bytes.
-fn some_to_end(at: usize, end: usize, len: usize) -> bool
-    ensures { Decides result ((at < end) × (len ≤ end)) }
-{
-    at < end && len <= end
-}
-
-// The number that `s` holds as spaces and then digits, or none if it holds none.
-fn value(s: &[u8]) -> Option<u64>
-    requires { length s.now ≤ 18 }
-    ensures { Only (λ n. Whole s.now n × (n < 10 ^ length s.now)) result }
-{
-    let at = runs::skip_spaces(s);
-    let (end, n) = runs::run(s, at, 0);
-    if !some_to_end(at, end, s.len()) {
-        return None;
-    }
-    Some(n)
-}
-
 // The number that the bytes are, at most 18, as spaces and then digits, or none if they are none.
 pub fn read_integer(s: &[u8]) -> Option<u64>
     ensures { Only (λ n. (length s.now ≤ 18) × Whole s.now n × (n < 10 ^ length s.now)) result }
 {
-    if s.len() > 18 {
+    let figures = &s[runs::skip_spaces(s)..];
+    if s.len() > 18 || !runs::are_digits(figures) {
         return None;
     }
-    value(s)
+    Some(runs::number(0, figures))
 }
 
 // Fills `out` with the digits of `n` at its end, and spaces before them.
