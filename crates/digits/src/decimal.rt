@@ -4,7 +4,7 @@ ghost use Rattle.std.specs.List.{AllByRecursion};
 ghost use Rattle.digits.specs.Bytes.{Space};
 ghost use Rattle.digits.specs.Calls.{Only, Puts};
 ghost use Rattle.digits.specs.Numerals.{Decimal, DecimalField, Part, pointed};
-ghost use Rattle.digits.specs.Written.{decimals, written, padded};
+ghost use Rattle.digits.specs.Written.{decimals, written, padded, overwritten};
 
 use crate::room::NoRoom;
 use crate::texts::{DecimalForm, DecimalText};
@@ -76,43 +76,36 @@ impl DecimalForm {
     }
 }
 
-// Writes the decimals of `rest` at `from`, and answers where they end.
-fn put_decimals(out: &mut [u8], from: usize, places: usize, rest: u64) -> usize
-    requires { (from + length (decimals places rest) ≤ length out.old) × ((rest < 10 ^ places) × (places ≤ 18)) }
-    ensures end { result ≡ from + length (decimals places rest) }
-    ensures front { take result out.new ≡ take from out.old ++ decimals places rest }
-{
-    let mut at = from;
-    let mut left = places;
-    let mut rest = rest;
-    while rest > 0 {
-        left -= 1;
-        let unit = 10u64.pow(left as u32);
-        runs::put_digit(out, at, rest / unit);
-        rest %= unit;
-        at += 1;
-    }
-    at
-}
-
-fn put_point(out: &mut [u8], at: usize)
-    requires { at < length out.old }
-    ensures { out.new ≡ slice_set out.old at 46 }
-{
-    out[at] = b'.';
-}
-
-// Writes a point and the decimals of `rest` at `at`, or nothing if `rest` is 0, and answers where they end.
-fn put_part(out: &mut [u8], at: usize, places: usize, rest: u64) -> usize
-    requires { (at + length (pointed (decimals places rest)) ≤ length out.old) × ((rest < 10 ^ places) × (places ≤ 18)) }
-    ensures end { result ≡ at + length (pointed (decimals places rest)) }
-    ensures front { take result out.new ≡ take at out.old ++ pointed (decimals places rest) }
+// Writes the decimals of `rest` over the first bytes of `out`.
+fn put_decimals(out: &mut [u8], places: usize, rest: u64)
+    requires { (length (decimals places rest) ≤ length out.old) × ((rest < 10 ^ places) × (places ≤ 18)) }
+    ensures { out.new ≡ overwritten (decimals places rest) out.old }
 {
     if rest == 0 {
-        return at;
+        return;
     }
-    put_point(out, at);
-    put_decimals(out, at + 1, places, rest)
+    let unit = 10u64.pow(places as u32 - 1);
+    runs::put_digit(out, 0, rest / unit);
+    put_decimals(&mut out[1..], places - 1, rest % unit);
+}
+
+fn put_point(out: &mut [u8])
+    requires { 0 < length out.old }
+    ensures { out.new ≡ slice_set out.old 0 46 }
+{
+    out[0] = b'.';
+}
+
+// Writes a point and the decimals of `rest` over the first bytes of `out`, or nothing if `rest` is 0.
+fn put_part(out: &mut [u8], places: usize, rest: u64)
+    requires { (length (pointed (decimals places rest)) ≤ length out.old) × ((rest < 10 ^ places) × (places ≤ 18)) }
+    ensures { out.new ≡ overwritten (pointed (decimals places rest)) out.old }
+{
+    if rest == 0 {
+        return;
+    }
+    put_point(out);
+    put_decimals(&mut out[1..], places, rest);
 }
 
 // Fills `out` with `n` units of the last of the places, and spaces up to its end.
@@ -121,9 +114,9 @@ fn fill(out: &mut [u8], n: u64, places: usize)
     ensures { out.new ≡ padded (length out.old) (written places n) }
 {
     let unit = 10u64.pow(places as u32);
+    runs::put_spaces(out);
     let point = runs::put_figures(out, n / unit);
-    let end = put_part(out, point, places, n % unit);
-    runs::put_spaces(out, end);
+    put_part(&mut out[point..], places, n % unit);
 }
 
 impl DecimalText {

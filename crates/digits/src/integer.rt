@@ -24,8 +24,8 @@ fn fill(out: &mut [u8], n: u64)
     requires { length (figures n) ≤ length out.old }
     ensures { out.new ≡ justified (length out.old) (figures n) }
 {
+    runs::put_spaces(out);
     let start = out.len() - runs::width(n);
-    runs::put_spaces(out, 0);
     runs::put_figures(&mut out[start..], n);
 }
 

@@ -4,6 +4,7 @@ ghost use Rattle.std.specs.List.{AllByRecursion, prefix_len};
 ghost use Rattle.std.specs.Char.{is_ascii_digit};
 ghost use Rattle.digits.specs.Bytes.{Digit, Space};
 ghost use Rattle.digits.specs.Numerals.{front, read_on};
+ghost use Rattle.digits.specs.Written.{overwritten};
 
 use crate::bytes;
 
@@ -75,11 +76,11 @@ pub(crate) fn put_digit(out: &mut [u8], at: usize, d: u64)
     out[at] = b'0' + d as u8;
 }
 
-// Writes the digits of `n` to the front of `out`, and answers how many they are.
+// Writes the digits of `n` over the first bytes of `out`, and answers how many they are.
 pub(crate) fn put_figures(out: &mut [u8], n: u64) -> usize
     requires { length (figures n) ≤ length out.old }
     ensures len { result ≡ length (figures n) }
-    ensures front { take result out.new ≡ figures n }
+    ensures text { out.new ≡ overwritten (figures n) out.old }
 {
     if n < 10 {
         put_digit(out, 0, n);
@@ -94,25 +95,12 @@ pub(crate) fn put_figures(out: &mut [u8], n: u64) -> usize
 pub(crate) fn width(n: u64) -> usize
     ensures { result ≡ length (figures n) }
 {
-    if n < 10 {
-        return 1;
-    }
-    width(n / 10) + 1
+    n.checked_ilog10().unwrap_or(0) as usize + 1
 }
 
-fn put_space(out: &mut [u8], at: usize)
-    requires { at < length out.old }
-    ensures { out.new ≡ slice_set out.old at 32 }
+// Makes all of `out` spaces.
+pub(crate) fn put_spaces(out: &mut [u8])
+    ensures { out.new ≡ replicate (length out.old) 32 }
 {
-    out[at] = b' ';
-}
-
-// Writes spaces from `from` on.
-pub(crate) fn put_spaces(out: &mut [u8], from: usize)
-    requires { from ≤ length out.old }
-    ensures { out.new ≡ take from out.old ++ replicate (length out.old - from) 32 }
-{
-    for at in from..out.len() {
-        put_space(out, at);
-    }
+    out.fill(b' ');
 }
