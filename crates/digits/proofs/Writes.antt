@@ -1,11 +1,11 @@
 -- What the writer's steps give.
-use Rattle.std.proofs.Common.{Option, Some, None, IfNone, IfSome, div-le_self, ◌*◌, le-div_iff_mul-le, add-one, ◌≡◌, ℕ, zero, suc, ◌+◌, ◌-◌, ◌/◌, ◌%◌, ◌^◌, ◌<◌, ◌≤◌, false, eqb, List, [], ◌∷◌, ◌++◌, length, take, drop, set, replicate, decimal, sym, refl, ap, ◌∙◌, subst, mod-lt, div-lt_iff_lt-mul, pow-suc, arith}
+use Rattle.std.proofs.Common.{Option, Some, None, IfNone, IfSome, div-le_self, ◌*◌, le-div_iff_mul-le, add-one, ◌≡◌, ℕ, zero, suc, ◌+◌, ◌-◌, ◌/◌, ◌%◌, ◌^◌, ◌<◌, ◌≤◌, false, eqb, List, [], ◌∷◌, ◌++◌, length, take, drop, set, replicate, decimal, sym, refl, ap, ◌∙◌, mod-lt, pow-suc, arith}
 use borrow.Rule.Slice.PartMut.{put_mid}
 use Rattle.std.specs.Option.{unwrap_or}
 use Rattle.std.proofs.lemmas.Bool.{cond-false, ne_eqb}
-use Rattle.std.proofs.lemmas.List.{take-replicate, drop-replicate, length-replicate, take_at, drop_at, take_all, drop_all, length-drop, length-append, length_push, append_assoc, append-nil}
+use Rattle.std.proofs.lemmas.List.{drop-replicate, take_at, drop_at, take_all, drop_all, length-drop, length-append, length_push, append_assoc, append-nil}
 use Rattle.std.proofs.lemmas.Fmt.{decimal_digit, decimal_step, decimal_nonempty, length-decimal-le}
-use Rattle.digits.specs.Written.{decimals, written, padded, justified, overwritten}
+use Rattle.digits.specs.Written.{decimals, written, padded, overwritten}
 use Rattle.digits.specs.Numerals.{pointed}
 use Rattle.digits.proofs.Fronts.{pow10_le}
 
@@ -59,26 +59,9 @@ decimals_step (suc k) r h p =
     let n : eqb r 0 ≡ false = ne_eqb r 0 (λ z. omega arith) in
     cond-false _ _ _ n ∙ ap (λ j. (48 + r / 10 ^ j) ∷ decimals j (r % 10 ^ j)) (sym e)
 
--- its digit
-pub top_digit : (k r : ℕ) → 0 < k → r < 10 ^ k → r / 10 ^ (k - 1) < 10
-top_digit zero r h l = absurd (omega arith)
-top_digit (suc k) r h l =
-    let e : suc k - 1 ≡ k = omega arith in
-    subst (λ j. r / 10 ^ j < 10) (sym e) ((div-lt_iff_lt-mul (pow10_pos k)).1 (omega (arith, pow-suc 10 k)))
-
--- one turn of the writer of decimals, u being the unit of the next place
-module _ (k r u : ℕ) (e : u ≡ 10 ^ (k - 1)) (h : 0 < k) where
-  pub unit_pos : 0 < u
-  unit_pos = omega (arith, pow10_pos (k - 1))
-
-  pub digit_small : r < 10 ^ k → r / u < 10
-  digit_small l = omega (arith, ap (λ x. r / x) e, top_digit k r h l)
-
-  pub rest_small : r % u < 10 ^ (k - 1)
-  rest_small = omega (arith, mod-lt r unit_pos)
-
-  pub step_at : 0 < r → decimals k r ≡ (48 + r / u) ∷ decimals (k - 1) (r % u)
-  step_at p = decimals_step k r h p ∙ ap (λ x. (48 + r / x) ∷ decimals (k - 1) (r % x)) (sym e)
+-- the same, u being the unit of the next place
+pub step_at : (k r u : ℕ) → u ≡ 10 ^ (k - 1) → 0 < k → 0 < r → decimals k r ≡ (48 + r / u) ∷ decimals (k - 1) (r % u)
+step_at k r u e h p = decimals_step k r h p ∙ ap (λ x. (48 + r / x) ∷ decimals (k - 1) (r % x)) (sym e)
 
 pub decimals_some : (k r : ℕ) → 0 < k → 0 < r → 0 < length (decimals k r)
 decimals_some k r h p = omega (arith, ap length (decimals_step k r h p))
@@ -129,12 +112,3 @@ module _ (k n u : ℕ) (e : u ≡ 10 ^ k) where
       put_end point ys zs (omega (arith, ap length y, length-append t (replicate (w - length t) 32)))
       ∙ ap (λ l. l ++ zs) (ap (take point) y ∙ take_at t (replicate (w - length t) 32) point (sym c))
       ∙ ap (λ l. t ++ l) z ∙ padded-append w t v ∙ ap (padded w) (sym written_at)
-
--- digits at the end of a field of spaces
-pub placed : (w start : ℕ) (xs ys t : List ℕ) → xs ≡ replicate w 32 → start + length t ≡ w → ys ≡ overwritten t (take (length xs - start) (drop start xs)) → put_mid start (length xs - start) xs ys ≡ justified w t
-placed w start xs ys t e l f =
-    let n : w ≡ length xs = sym (ap length e ∙ length-replicate w 32) in
-    let s : start ≡ w - length t = omega arith in
-    put_end start xs ys (omega arith)
-    ∙ ap (λ p. p ++ ys) (ap (take start) e ∙ take-replicate start w 32 (omega arith) ∙ ap (λ m. replicate m 32) s)
-    ∙ ap (λ q. replicate (w - length t) 32 ++ q) (f ∙ ap (λ q. t ++ q) (drop_all (length t) _ (omega (arith, ap length (rest_of start xs), length-drop start xs))) ∙ append-nil t)
