@@ -12,7 +12,7 @@ use crate::{bytes, runs};
 pub fn read_integer(s: &[u8]) -> Option<u64>
     ensures { Only (λ n. (length s.now ≤ 18) × Whole s.now n × (n < 10 ^ length s.now)) result }
 {
-    let figures = &s[runs::skip_spaces(s)..];
+    let figures = &s[runs::count_spaces(s)..];
     if s.len() > 18 || !runs::are_digits(figures) {
         return None;
     }

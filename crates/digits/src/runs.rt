@@ -53,7 +53,7 @@ pub(crate) fn number(n: u64, digits: &[u8]) -> u64
 }
 
 // How many spaces `s` begins with.
-pub(crate) fn skip_spaces(s: &[u8]) -> usize
+pub(crate) fn count_spaces(s: &[u8]) -> usize
     ensures within { result ≤ length s.now }
     ensures before { AllByRecursion Space (take result s.now) }
     ensures stops { result < length s.now → Space (slice_index s.now result) → ⊥ }

@@ -15,7 +15,7 @@ figures s at h = take_all (length s - at) (drop at s) (omega (arith, length-drop
 
 pub returns-then-s-gt18 : goal.returns-then-s-gt18
 returns-then-s-gt18 c n h =
-    let s = c.skip_spaces.ensures in
+    let s = c.count_spaces.ensures in
     let f = whole_figures c.args.s.now _ n s.before s.stops h.1 in
     elim c.then-s-gt18.branch [
       | then-s-gt18-via-then-s-gt18 w ↦ absurd (omega arith)
@@ -26,17 +26,17 @@ returns-then-s-gt18 c n h =
 
 pub number-requires-clause-room : goal.number-requires-clause-room
 number-requires-clause-room c =
-    let e = ap length (figures c.args.s.now _ c.skip_spaces.ensures.within) in
-    let d = length-drop c.skip_spaces.result c.args.s.now in
-    omega (arith, pow10_le (length (take (length c.args.s.now - c.skip_spaces.result) (drop c.skip_spaces.result c.args.s.now))) 18 (omega arith))
+    let e = ap length (figures c.args.s.now _ c.count_spaces.ensures.within) in
+    let d = length-drop c.count_spaces.result c.args.s.now in
+    omega (arith, pow10_le (length (take (length c.args.s.now - c.count_spaces.result) (drop c.count_spaces.result c.args.s.now))) 18 (omega arith))
 
 pub returns : goal.returns
 returns c =
     let s = c.args.s.now in
-    let at = c.skip_spaces.result in
-    let e = figures s at c.skip_spaces.ensures.within in
+    let at = c.count_spaces.result in
+    let e = figures s at c.count_spaces.ensures.within in
     let l = ap length e in
     let d = length-drop at s in
     let f = subst (λ l. (0 < length l) × AllByRecursion Digit l) e (c.are_digits.ensures.0 c.if-not-are_digits.false) in
-    let w = whole_made s at c.number.result c.skip_spaces.ensures.before f.0 f.1 (c.number.ensures.number ∙ ap (read_on 0) e) in
+    let w = whole_made s at c.number.result c.count_spaces.ensures.before f.0 f.1 (c.number.ensures.number ∙ ap (read_on 0) e) in
     ((omega arith, w, omega (arith, pow10_le (length (take (length s - at) (drop at s))) (length s) (omega arith))), λ m h. one_whole s m _ h.1 w)
