@@ -1,11 +1,11 @@
 -- A decimal by its leading digits: what a reader finds, and that nothing else is one.
-use Rattle.std.proofs.Common.{◌≡◌, ℕ, ◌+◌, ◌-◌, ◌*◌, ◌^◌, ◌<◌, ◌≤◌, cond, ◌⊎◌, List, [], ◌∷◌, ◌++◌, length, get_or, drop, sym, refl, ap, ◌∙◌, subst, inl, inr, ⊎_elim, arith}
+use Rattle.std.proofs.Common.{eqb, ◌≡◌, ℕ, ◌+◌, ◌-◌, ◌*◌, ◌^◌, ◌<◌, ◌≤◌, cond, ◌⊎◌, List, [], ◌∷◌, ◌++◌, length, get_or, drop, sym, refl, ap, ◌∙◌, subst, inl, inr, arith}
 use Rattle.std.specs.List.{AllByRecursion}
 use Rattle.std.specs.Char.{is_ascii_digit}
-use Rattle.std.proofs.lemmas.List.{drop_at, drop-drop, length-append, append-nil, drop_more, get_or-drop}
+use Rattle.std.proofs.lemmas.List.{drop_at, drop-drop, length-append, append-nil, drop_more, get_or-drop, append_cancel_left}
 use Rattle.digits.specs.Bytes.{Digit, Space}
-use Rattle.digits.specs.Numerals.{front, read_on, pointed, Decimal}
-use Rattle.digits.proofs.Fronts.{front-append, front_digits, front_past, spaces_rest}
+use Rattle.digits.specs.Numerals.{front, read_on, pointed, Decimal, Part}
+use Rattle.digits.proofs.Fronts.{front-append, front_digits, front_past}
 
 -- the digits after the point
 abbrev pub behind : List ℕ → List ℕ
@@ -118,41 +118,69 @@ pub decimal_shape : (p : ℕ) (bs : List ℕ) (n : ℕ) → Decimal p bs n → P
 decimal_shape p bs n h =
     subst (λ l. Plain p l n ⊎ Parted p l n) (sym h.form) (shape_parts p n h.whole h.part h.pad h.whole_digits h.part_digits h.part_few h.pad_spaces h.count)
 
--- what a reader has found at a point: where it is, where the digits after it stop, and the numbers up to each
-pub record Cut (bs : List ℕ) (e w stop all : ℕ) : Type 0 where
-  pub e_is : e ≡ length (front bs)
-  pub w_is : w ≡ read_on 0 (front bs)
-  pub inside : e < length bs
-  pub point : get_or bs e 0 ≡ 46
-  pub stop_is : stop ≡ e + 1 + length (front (drop (e + 1) bs))
-  pub all_is : all ≡ read_on w (front (drop (e + 1) bs))
+-- the digits behind a point that bs begins with
+abbrev part_of : List ℕ → List ℕ
+part_of [] = []
+part_of (c ∷ cs) = cond (eqb c 46) (front cs) []
 
-module _ {bs : List ℕ} {e w stop all : ℕ} (cut : Cut bs e w stop all) where
-  same_behind : front (drop (e + 1) bs) ≡ behind bs
-  same_behind = ap (λ i. front (drop (i + 1) bs)) cut.e_is
+pub part_is : (bs part : List ℕ) → Part bs part → part ≡ part_of bs
+part_is bs part h = part_form part h.pad h.part_digits h.pad_spaces ∙ ap part_of (sym h.form)
+  where
+    part_form : (ds pad : List ℕ) → AllByRecursion Digit ds → AllByRecursion Space pad → ds ≡ part_of (pointed ds ++ pad)
+    part_form [] [] d s = refl
+    part_form [] (x ∷ xs) d s = sym (ap (λ c. cond (eqb c 46) (front xs) []) s.0)
+    part_form (c ∷ cs) pad d s = sym (front-append (c ∷ cs) pad d (front_spaces pad s))
 
-  pub cut_few : stop - (e + 1) ≡ length (behind bs)
-  cut_few = omega (arith, cut.stop_is, ap length same_behind)
+-- bytes have one part
+pub one_part : (bs part other : List ℕ) → Part bs part → Part bs other → part ≡ other
+one_part bs part other a b = part_is bs part a ∙ sym (part_is bs other b)
 
-  pub cut_stop : length (front bs) + 1 + length (behind bs) ≡ stop
-  cut_stop = omega (arith, cut.e_is, cut.stop_is, ap length same_behind)
+-- bytes that begin with a point, the digits behind it, and what stands behind these
+module _ (bs after part pad : List ℕ) (e : bs ≡ 46 ∷ after) (is : part ≡ front after) (form : after ≡ part ++ pad) where
+  pub part_found : 0 < length part → AllByRecursion Space pad → Part bs part
+  part_found some s =
+      record {
+        pad = pad;
+        form = e ∙ ap (λ l. 46 ∷ l) form ∙ ap (λ l. l ++ pad) (sym (pointed_some part some));
+        part_digits = subst (AllByRecursion Digit) (sym is) (front_digits after);
+        pad_spaces = s;
+      }
 
-  pub cut-decimal : (p n : ℕ) → 0 < e → 0 < stop - (e + 1) → stop - (e + 1) ≤ p → AllByRecursion Space (drop stop bs) → n ≡ all * 10 ^ (p - (stop - (e + 1))) → Decimal p bs n
-  cut-decimal p n some more few s is =
-      parted_decimal p bs n (omega (arith, cut.e_is))
-      (record {
-        inside = omega (arith, cut.e_is, cut.inside);
-        point = ap (λ i. get_or bs i 0) (sym cut.e_is) ∙ cut.point;
-        some = omega (arith, cut_few);
-        few = omega (arith, cut_few);
-        spaces = subst (λ i. AllByRecursion Space (drop i bs)) (sym cut_stop) s;
-        count = is ∙ ap (λ m. all * 10 ^ (p - m)) cut_few ∙ ap (λ m. m * 10 ^ (p - length (behind bs))) (cut.all_is ∙ ap (read_on w) same_behind ∙ ap (λ m. read_on m (behind bs)) cut.w_is);
-      })
+  pub part_only : (other : List ℕ) → Part bs other → (0 < length part) × AllByRecursion Space pad
+  part_only other h = only other h.pad h.part_digits h.pad_spaces (sym e ∙ h.form)
+    where
+      only : (ds gap : List ℕ) → AllByRecursion Digit ds → AllByRecursion Space gap → 46 ∷ after ≡ pointed ds ++ gap → (0 < length part) × AllByRecursion Space pad
+      only [] gap d s f = let t = subst (AllByRecursion Space) (sym f) s in let u = t.0 in absurd (omega arith)
+      only (c ∷ cs) gap d s f =
+          let g : after ≡ (c ∷ cs) ++ gap = ap (drop 1) f in
+          let p : part ≡ c ∷ cs = is ∙ ap front g ∙ front-append (c ∷ cs) gap d (front_spaces gap s) in
+          (omega (arith, ap length p), subst (AllByRecursion Space) (append_cancel_left (c ∷ cs) gap pad (sym g ∙ form ∙ ap (λ l. l ++ pad) p)) s)
 
-  -- a decimal with a point there is cut as the reader has cut it
-  pub decimal-cut : (p n : ℕ) → Decimal p bs n → (0 < stop - (e + 1)) × (stop - (e + 1) ≤ p) × AllByRecursion Space (drop stop bs)
-  decimal-cut p n h =
-      ⊎_elim
-      (λ d. let sp = (spaces_rest bs e cut.inside (subst (λ i. AllByRecursion Space (drop i bs)) (sym cut.e_is) d.spaces)).0 in let pt = cut.point in absurd (omega arith))
-      (λ d. (omega (arith, cut_few, d.some), omega (arith, cut_few, d.few), subst (λ i. AllByRecursion Space (drop i bs)) cut_stop d.spaces))
-      (decimal_shape p bs n h)
+-- a decimal cut behind its whole digits
+module _ (bs whole rest : List ℕ) (is : whole ≡ front bs) (form : bs ≡ whole ++ rest) where
+  pub decimal_parts : (p n : ℕ) (d : Decimal p bs n) → (0 < length whole) × Part rest d.part
+  decimal_parts p n d =
+      let w : d.whole ≡ whole = sym (is ∙ ap front d.form ∙ front_parts d.whole d.part d.pad d.whole_digits d.pad_spaces) in (
+        omega (arith, d.whole_some, ap length w),
+        record {
+          pad = d.pad;
+          form = append_cancel_left whole rest (pointed d.part ++ d.pad) (sym form ∙ d.form ∙ ap (λ l. l ++ (pointed d.part ++ d.pad)) w);
+          part_digits = d.part_digits;
+          pad_spaces = d.pad_spaces;
+        },
+      )
+
+  pub parts_decimal : (p n : ℕ) (part : List ℕ) → 0 < length whole → Part rest part → length part ≤ p → n ≡ read_on (read_on 0 whole) part * 10 ^ (p - length part) → Decimal p bs n
+  parts_decimal p n part some t few e =
+      record {
+        whole = whole;
+        part = part;
+        pad = t.pad;
+        form = form ∙ ap (λ l. whole ++ l) t.form;
+        whole_digits = subst (AllByRecursion Digit) (sym is) (front_digits bs);
+        whole_some = some;
+        part_digits = t.part_digits;
+        pad_spaces = t.pad_spaces;
+        part_few = few;
+        count = e ∙ ap (λ m. m * 10 ^ (p - length part)) (sym (read_on-append 0 whole part));
+      }

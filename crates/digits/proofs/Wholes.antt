@@ -1,10 +1,9 @@
 -- Integers: spaces and then digits to the end.
-use Rattle.std.proofs.Common.{◌≡◌, ℕ, zero, suc, ◌+◌, ◌<◌, ◌≤◌, List, [], ◌∷◌, ◌++◌, length, get_or, take, drop, sym, refl, ap, ◌∙◌, subst, arith}
+use Rattle.std.proofs.Common.{◌≡◌, ℕ, zero, suc, ◌<◌, List, [], ◌∷◌, ◌++◌, length, get_or, take, drop, sym, refl, ap, ◌∙◌, subst, arith}
 use Rattle.std.specs.List.{AllByRecursion}
-use Rattle.std.proofs.lemmas.List.{take_at, append-nil, take-append-drop, drop_all, length-drop, length-append}
+use Rattle.std.proofs.lemmas.List.{take_at, take-append-drop, length-append}
 use Rattle.digits.specs.Bytes.{Digit, Space}
-use Rattle.digits.specs.Numerals.{front, read_on, Whole}
-use Rattle.digits.proofs.Fronts.{front-append, front_past, front_digits}
+use Rattle.digits.specs.Numerals.{read_on, Whole}
 
 strip : (gap figures : List ℕ) (at : ℕ) → AllByRecursion Space gap → AllByRecursion Digit figures → 0 < length figures → AllByRecursion Space (take at (gap ++ figures)) → (at < length (gap ++ figures) → get_or (gap ++ figures) at 0 ≡ 32 → ⊥) → drop at (gap ++ figures) ≡ figures
 strip [] figures zero g d some t stop = refl
@@ -19,24 +18,13 @@ whole_rest bs at n s stop w =
     subst (λ l. AllByRecursion Space (take at l) → (at < length l → get_or l at 0 ≡ 32 → ⊥) → drop at l ≡ w.figures) (sym w.form)
     (λ t p. strip w.gap w.figures at w.gap_spaces w.figures_digits w.figures_some t p) s stop
 
-pub whole_ends : (bs : List ℕ) (at n : ℕ) → AllByRecursion Space (take at bs) → (at < length bs → get_or bs at 0 ≡ 32 → ⊥) → at ≤ length bs → Whole bs n → (0 < length (front (drop at bs))) × (at + length (front (drop at bs)) ≡ length bs)
-whole_ends bs at n s stop l w =
-    let e = whole_rest bs at n s stop w in
-    let f : front (drop at bs) ≡ w.figures = ap front (e ∙ sym (append-nil w.figures)) ∙ front-append w.figures [] w.figures_digits refl in
-    (omega (arith, ap length f, w.figures_some), omega (arith, ap length f, ap length e, length-drop at bs))
+pub whole_figures : (bs : List ℕ) (at n : ℕ) → AllByRecursion Space (take at bs) → (at < length bs → get_or bs at 0 ≡ 32 → ⊥) → Whole bs n → (0 < length (drop at bs)) × AllByRecursion Digit (drop at bs)
+whole_figures bs at n s stop w =
+    subst (λ l. (0 < length l) × AllByRecursion Digit l) (sym (whole_rest bs at n s stop w)) (w.figures_some, w.figures_digits)
 
-pub whole_made : (bs : List ℕ) (at n : ℕ) → AllByRecursion Space (take at bs) → 0 < length (front (drop at bs)) → at + length (front (drop at bs)) ≡ length bs → n ≡ read_on 0 (front (drop at bs)) → Whole bs n
-whole_made bs at n s some e is =
-    let none : drop (length (front (drop at bs))) (drop at bs) ≡ [] = drop_all (length (front (drop at bs))) (drop at bs) (omega (arith, length-drop at bs)) in
-    record {
-      gap = take at bs;
-      figures = front (drop at bs);
-      form = sym (take-append-drop at bs) ∙ ap (λ l. take at bs ++ l) (front_past (drop at bs) ∙ ap (λ l. front (drop at bs) ++ l) none ∙ append-nil (front (drop at bs)));
-      gap_spaces = s;
-      figures_digits = front_digits (drop at bs);
-      figures_some = some;
-      count = is;
-    }
+pub whole_made : (bs : List ℕ) (at n : ℕ) → AllByRecursion Space (take at bs) → 0 < length (drop at bs) → AllByRecursion Digit (drop at bs) → n ≡ read_on 0 (drop at bs) → Whole bs n
+whole_made bs at n s some d is =
+    record { gap = take at bs; figures = drop at bs; form = sym (take-append-drop at bs); gap_spaces = s; figures_digits = d; figures_some = some; count = is }
 
 pub whole_some : (bs : List ℕ) (n : ℕ) → Whole bs n → 0 < length bs
 whole_some bs n w = omega (arith, w.figures_some, ap length w.form, length-append w.gap w.figures)

@@ -47,6 +47,13 @@ pub record Decimal (places : ℕ) (bs : List ℕ) (n : ℕ) : Type 0 where
   pub part_few : length part ≤ places
   pub count : n ≡ numeral (whole ++ part) * 10 ^ (places - length part)
 
+-- bs is perhaps a point and one or more digits, which are the part, then only spaces
+pub record Part (bs part : List ℕ) : Type 0 where
+  pub pad : List ℕ
+  pub form : bs ≡ pointed part ++ pad
+  pub part_digits : AllByRecursion Digit part
+  pub pad_spaces : AllByRecursion Space pad
+
 -- a decimal in a field of `width` bytes
 pub record DecimalField (width places : ℕ) (bs : List ℕ) (n : ℕ) : Type 0 where
   pub long : length bs ≡ width

@@ -1,5 +1,5 @@
 -- How numbers are written in their fields.
-use Rattle.std.specs.Prelude.{ℕ, zero, suc, ◌+◌, ◌-◌, ◌/◌, ◌%◌, ◌^◌, cond, List, [], ◌∷◌, ◌++◌, length, replicate, decimal, ◌==◌}
+use Rattle.std.specs.Prelude.{ℕ, zero, suc, ◌+◌, ◌-◌, ◌/◌, ◌%◌, ◌^◌, cond, List, [], ◌∷◌, ◌++◌, length, drop, replicate, decimal, ◌==◌}
 use Rattle.digits.specs.Numerals.{pointed}
 
 -- the digits after the point of r units of the last of k places, up to the last one that is not 0
@@ -18,3 +18,7 @@ padded w t = t ++ replicate (w - length t) 32
 -- a text at the right of a field of w bytes, spaces before it
 abbrev pub justified : ℕ → List ℕ → List ℕ
 justified w t = replicate (w - length t) 32 ++ t
+
+-- bytes with a text over the first of them
+abbrev pub overwritten : List ℕ → List ℕ → List ℕ
+overwritten t bs = t ++ drop (length t) bs

@@ -1,18 +1,14 @@
 // Decimals of any width and number of places.
-ghost use Rattle.std.specs.Prelude.{◌≡◌, ◌+◌, ◌*◌, ◌^◌, ◌<◌, ◌≤◌, ◌++◌, length, take, Decides, slice_index, slice_set};
+ghost use Rattle.std.specs.Prelude.{◌≡◌, ◌≢◌, ℕ, ◌+◌, ◌*◌, ◌^◌, ◌<◌, ◌≤◌, ◌++◌, List, ◌∷◌, length, take, Decides, MatchOption, slice_index, slice_set};
+ghost use Rattle.std.specs.List.{AllByRecursion};
+ghost use Rattle.digits.specs.Bytes.{Space};
 ghost use Rattle.digits.specs.Calls.{Only, Puts};
-ghost use Rattle.digits.specs.Numerals.{Decimal, DecimalField, pointed};
-ghost use Rattle.digits.specs.Written.{decimals, written, padded};
+ghost use Rattle.digits.specs.Numerals.{Decimal, DecimalField, Part, pointed};
+ghost use Rattle.digits.specs.Written.{decimals, written, padded, overwritten};
 
+use crate::room::NoRoom;
 use crate::texts::{DecimalForm, DecimalText};
 use crate::{bytes, runs};
-
-// Whether there are digits after the point, and no more than the places.
-fn some_but_few(few: usize, places: usize) -> bool
-    ensures { Decides result ((0 < few) × (few ≤ places)) }
-{
-    few > 0 && few <= places
-}
 
 // `n` units of a place with `left` places after it, in units of the last.
 fn scaled(n: u64, left: usize) -> u64
@@ -22,10 +18,36 @@ fn scaled(n: u64, left: usize) -> u64
     n * 10u64.pow(left as u32)
 }
 
-fn is_point(s: &[u8], at: usize) -> bool
-    ensures { Decides result ((at < length s.now) × (slice_index s.now at ≡ 46)) }
+// What stands behind the point that `s` begins with, or none where it begins with none.
+fn after_point(s: &[u8]) -> Option<&[u8]>
+    ensures { MatchOption result ((rest : List ℕ) → s.now ≢ 46 ∷ rest) (λ rest. s.now ≡ 46 ∷ rest.now) }
 {
-    at < s.len() && s[at] == b'.'
+    s.strip_prefix(b".")
+}
+
+// Whether there is a digit, and only spaces behind the digits.
+fn some_then_spaces(digits: &[u8], pad: &[u8]) -> bool
+    ensures { Decides result ((0 < length digits.now) × AllByRecursion Space pad.now) }
+{
+    !digits.is_empty() && runs::spaces(pad, 0)
+}
+
+// The digits behind a point, where `s` is a point and digits, or nothing, and then spaces.
+fn find_part(s: &[u8]) -> Option<&[u8]>
+    ensures { MatchOption result ((part : List ℕ) → Part s.now part → ⊥) (λ part. Part s.now part.now) }
+{
+    let Some(after) = after_point(s) else {
+        return runs::spaces(s, 0).then_some(&s[..0]);
+    };
+    let (part, pad) = runs::cut_digits(after);
+    some_then_spaces(part, pad).then_some(part)
+}
+
+// Whether there are digits before the point, and no more than the places behind it.
+fn some_and_few(whole: &[u8], part: &[u8], places: usize) -> bool
+    ensures { Decides result ((0 < length whole.now) × (length part.now ≤ places)) }
+{
+    !whole.is_empty() && part.len() <= places
 }
 
 // The count of the decimal that `s` holds, in units of the last of the places, or none if it holds none.
@@ -33,22 +55,13 @@ fn count(s: &[u8], places: usize) -> Option<u64>
     requires { length s.now + places ≤ 18 }
     ensures { Only (Decimal places s.now) result }
 {
-    let (end, whole) = runs::run(s, 0, 0);
-    if end == 0 {
+    let (whole, rest) = runs::cut_digits(s);
+    let part = find_part(rest)?;
+    if !some_and_few(whole, part, places) {
         return None;
     }
-    if !is_point(s, end) {
-        if !runs::spaces(s, end) {
-            return None;
-        }
-        return Some(scaled(whole, places));
-    }
-    let (stop, all) = runs::run(s, end + 1, whole);
-    let few = stop - (end + 1);
-    if !some_but_few(few, places) || !runs::spaces(s, stop) {
-        return None;
-    }
-    Some(scaled(all, places - few))
+    let n = runs::number(runs::number(0, whole), part);
+    Some(scaled(n, places - part.len()))
 }
 
 impl DecimalForm {
@@ -63,43 +76,36 @@ impl DecimalForm {
     }
 }
 
-// Writes the decimals of `rest` at `from`, and answers where they end.
-fn put_decimals(out: &mut [u8], from: usize, places: usize, rest: u64) -> usize
-    requires { (from + length (decimals places rest) ≤ length out.old) × ((rest < 10 ^ places) × (places ≤ 18)) }
-    ensures end { result ≡ from + length (decimals places rest) }
-    ensures front { take result out.new ≡ take from out.old ++ decimals places rest }
-{
-    let mut at = from;
-    let mut left = places;
-    let mut rest = rest;
-    while rest > 0 {
-        left -= 1;
-        let unit = 10u64.pow(left as u32);
-        runs::put_digit(out, at, rest / unit);
-        rest %= unit;
-        at += 1;
-    }
-    at
-}
-
-fn put_point(out: &mut [u8], at: usize)
-    requires { at < length out.old }
-    ensures { out.new ≡ slice_set out.old at 46 }
-{
-    out[at] = b'.';
-}
-
-// Writes a point and the decimals of `rest` at `at`, or nothing if `rest` is 0, and answers where they end.
-fn put_part(out: &mut [u8], at: usize, places: usize, rest: u64) -> usize
-    requires { (at + length (pointed (decimals places rest)) ≤ length out.old) × ((rest < 10 ^ places) × (places ≤ 18)) }
-    ensures end { result ≡ at + length (pointed (decimals places rest)) }
-    ensures front { take result out.new ≡ take at out.old ++ pointed (decimals places rest) }
+// Writes the decimals of `rest` over the first bytes of `out`.
+fn put_decimals(out: &mut [u8], places: usize, rest: u64)
+    requires { (length (decimals places rest) ≤ length out.old) × ((rest < 10 ^ places) × (places ≤ 18)) }
+    ensures { out.new ≡ overwritten (decimals places rest) out.old }
 {
     if rest == 0 {
-        return at;
+        return;
     }
-    put_point(out, at);
-    put_decimals(out, at + 1, places, rest)
+    let unit = 10u64.pow(places as u32 - 1);
+    runs::put_digit(out, 0, rest / unit);
+    put_decimals(&mut out[1..], places - 1, rest % unit);
+}
+
+fn put_point(out: &mut [u8])
+    requires { 0 < length out.old }
+    ensures { out.new ≡ slice_set out.old 0 46 }
+{
+    out[0] = b'.';
+}
+
+// Writes a point and the decimals of `rest` over the first bytes of `out`, or nothing if `rest` is 0.
+fn put_part(out: &mut [u8], places: usize, rest: u64)
+    requires { (length (pointed (decimals places rest)) ≤ length out.old) × ((rest < 10 ^ places) × (places ≤ 18)) }
+    ensures { out.new ≡ overwritten (pointed (decimals places rest)) out.old }
+{
+    if rest == 0 {
+        return;
+    }
+    put_point(out);
+    put_decimals(&mut out[1..], places, rest);
 }
 
 // Fills `out` with `n` units of the last of the places, and spaces up to its end.
@@ -108,20 +114,18 @@ fn fill(out: &mut [u8], n: u64, places: usize)
     ensures { out.new ≡ padded (length out.old) (written places n) }
 {
     let unit = 10u64.pow(places as u32);
+    runs::put_spaces(out);
     let point = runs::put_figures(out, n / unit);
-    let end = put_part(out, point, places, n % unit);
-    runs::put_spaces(out, end);
+    put_part(&mut out[point..], places, n % unit);
 }
 
 impl DecimalText {
-    // Writes it, and spaces up to its width, at `at`; false where it has no room.
-    pub fn write(&self, out: &mut [u8], at: usize) -> bool
+    // Writes it, and spaces up to its width, at `at`.
+    pub fn write(&self, out: &mut [u8], at: usize) -> Result<(), NoRoom>
         ensures { Puts (padded self.now.width (written self.now.places self.now.count)) out.old at result out.new }
     {
-        let Some(end) = bytes::field_end(out.len(), at, self.width) else {
-            return false;
-        };
+        let end = bytes::field_end(out.len(), at, self.width)?;
         fill(&mut out[at..end], self.count, self.places);
-        true
+        Ok(())
     }
 }

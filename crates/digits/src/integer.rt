@@ -4,37 +4,19 @@ ghost use Rattle.digits.specs.Calls.{Only, Puts};
 ghost use Rattle.digits.specs.Numerals.{Whole};
 ghost use Rattle.digits.specs.Written.{justified};
 
+use crate::room::NoRoom;
 use crate::texts::IntegerText;
 use crate::{bytes, runs};
-
-// Whether there are digits from `at` to `end`, and these end the `len` bytes.
-fn some_to_end(at: usize, end: usize, len: usize) -> bool
-    ensures { Decides result ((at < end) × (len ≤ end)) }
-{
-    at < end && len <= end
-}
-
-// The number that `s` holds as spaces and then digits, or none if it holds none.
-fn value(s: &[u8]) -> Option<u64>
-    requires { length s.now ≤ 18 }
-    ensures { Only (λ n. Whole s.now n × (n < 10 ^ length s.now)) result }
-{
-    let at = runs::skip_spaces(s);
-    let (end, n) = runs::run(s, at, 0);
-    if !some_to_end(at, end, s.len()) {
-        return None;
-    }
-    Some(n)
-}
 
 // The number that the bytes are, at most 18, as spaces and then digits, or none if they are none.
 pub fn read_integer(s: &[u8]) -> Option<u64>
     ensures { Only (λ n. (length s.now ≤ 18) × Whole s.now n × (n < 10 ^ length s.now)) result }
 {
-    if s.len() > 18 {
+    let figures = &s[runs::count_spaces(s)..];
+    if s.len() > 18 || !runs::are_digits(figures) {
         return None;
     }
-    value(s)
+    Some(runs::number(0, figures))
 }
 
 // Fills `out` with the digits of `n` at its end, and spaces before them.
@@ -42,20 +24,18 @@ fn fill(out: &mut [u8], n: u64)
     requires { length (figures n) ≤ length out.old }
     ensures { out.new ≡ justified (length out.old) (figures n) }
 {
+    runs::put_spaces(out);
     let start = out.len() - runs::width(n);
-    runs::put_spaces(out, 0);
     runs::put_figures(&mut out[start..], n);
 }
 
 impl IntegerText {
-    // Writes it, after spaces, at `at`; false where it has no room.
-    pub fn write(&self, out: &mut [u8], at: usize) -> bool
+    // Writes it, after spaces, at `at`.
+    pub fn write(&self, out: &mut [u8], at: usize) -> Result<(), NoRoom>
         ensures { Puts (justified self.now.width (figures self.now.value)) out.old at result out.new }
     {
-        let Some(end) = bytes::field_end(out.len(), at, self.width) else {
-            return false;
-        };
+        let end = bytes::field_end(out.len(), at, self.width)?;
         fill(&mut out[at..end], self.value);
-        true
+        Ok(())
     }
 }

@@ -4,10 +4,12 @@
 mod bytes;
 mod decimal;
 mod integer;
+mod room;
 mod runs;
 mod texts;
 
 pub use bytes::{is_space, put};
 pub use integer::read_integer;
+pub use room::NoRoom;
 pub use runs::spaces;
 pub use texts::{DecimalForm, DecimalText, IntegerText};

@@ -1,10 +1,34 @@
 // Runs of digits and of spaces.
 ghost use Rattle.std.specs.Prelude.{◌≡◌, ◌+◌, ◌-◌, ◌*◌, ◌^◌, ◌<◌, ◌≤◌, ◌++◌, length, take, drop, replicate, decimal as figures, Decides, slice_index, slice_set};
-ghost use Rattle.std.specs.List.{AllByRecursion};
+ghost use Rattle.std.specs.List.{AllByRecursion, prefix_len};
+ghost use Rattle.std.specs.Char.{is_ascii_digit};
 ghost use Rattle.digits.specs.Bytes.{Digit, Space};
 ghost use Rattle.digits.specs.Numerals.{front, read_on};
+ghost use Rattle.digits.specs.Written.{overwritten};
 
 use crate::bytes;
+
+// How many digits `s` begins with.
+fn count_digits(s: &[u8]) -> usize
+    ensures { result ≡ prefix_len is_ascii_digit s.now }
+{
+    s.iter().take_while(|b| b.is_ascii_digit()).count()
+}
+
+// `s` cut behind the digits that it begins with.
+pub(crate) fn cut_digits(s: &[u8]) -> (&[u8], &[u8])
+    ensures digits { result.0.now ≡ front s.now }
+    ensures whole { s.now ≡ result.0.now ++ result.1.now }
+{
+    s.split_at(count_digits(s))
+}
+
+// Whether there is a byte, and each is a digit.
+pub(crate) fn are_digits(s: &[u8]) -> bool
+    ensures { Decides result ((0 < length s.now) × AllByRecursion Digit s.now) }
+{
+    !s.is_empty() && s.iter().all(|b| b.is_ascii_digit())
+}
 
 // One digit more after those of `n`.
 fn append_digit(n: u64, digit: u8) -> u64
@@ -14,48 +38,34 @@ fn append_digit(n: u64, digit: u8) -> u64
     n * 10 + (digit - b'0') as u64
 }
 
-// Where the digits of `s` from `from` on end, and the number that they write after those of `n`.
-pub(crate) fn run(s: &[u8], from: usize, n: u64) -> (usize, u64)
-    requires { (from ≤ length s.now) × ((length s.now ≤ 18) × (n < 10 ^ from)) }
-    ensures ends { result.0 ≡ from + length (front (drop from s.now)) }
-    ensures number { result.1 ≡ read_on n (front (drop from s.now)) }
-    ensures within { result.0 ≤ length s.now }
-    ensures bound { result.1 < 10 ^ result.0 }
+// The number that `digits` write after those of `n`.
+pub(crate) fn number(n: u64, digits: &[u8]) -> u64
+    requires digits { AllByRecursion Digit digits.now }
+    requires room { (n + 1) * 10 ^ length digits.now ≤ 10 ^ 18 }
+    ensures number { result ≡ read_on n digits.now }
+    ensures bound { result < (n + 1) * 10 ^ length digits.now }
 {
-    let mut at = from;
     let mut n = n;
-    while at < s.len() && s[at].is_ascii_digit() {
-        n = append_digit(n, s[at]);
-        at += 1;
+    for digit in digits {
+        n = append_digit(n, *digit);
     }
-    (at, n)
+    n
 }
 
-// Where the spaces end with which `s` begins.
-pub(crate) fn skip_spaces(s: &[u8]) -> usize
+// How many spaces `s` begins with.
+pub(crate) fn count_spaces(s: &[u8]) -> usize
     ensures within { result ≤ length s.now }
     ensures before { AllByRecursion Space (take result s.now) }
     ensures stops { result < length s.now → Space (slice_index s.now result) → ⊥ }
 {
-    let mut at = 0;
-    while at < s.len() && bytes::is_space(s[at]) {
-        at += 1;
-    }
-    at
+    s.iter().take_while(|b| bytes::is_space(**b)).count()
 }
 
 // Whether all bytes from `from` on are spaces.
 pub fn spaces(s: &[u8], from: usize) -> bool
     ensures { Decides result (AllByRecursion Space (drop from s.now)) }
 {
-    let mut at = from;
-    while at < s.len() {
-        if !bytes::is_space(s[at]) {
-            return false;
-        }
-        at += 1;
-    }
-    true
+    s.iter().skip(from).all(|b| bytes::is_space(*b))
 }
 
 // Writes the digit `d` at `at`.
@@ -66,11 +76,11 @@ pub(crate) fn put_digit(out: &mut [u8], at: usize, d: u64)
     out[at] = b'0' + d as u8;
 }
 
-// Writes the digits of `n` to the front of `out`, and answers how many they are.
+// Writes the digits of `n` over the first bytes of `out`, and answers how many they are.
 pub(crate) fn put_figures(out: &mut [u8], n: u64) -> usize
     requires { length (figures n) ≤ length out.old }
     ensures len { result ≡ length (figures n) }
-    ensures front { take result out.new ≡ figures n }
+    ensures text { out.new ≡ overwritten (figures n) out.old }
 {
     if n < 10 {
         put_digit(out, 0, n);
@@ -85,25 +95,12 @@ pub(crate) fn put_figures(out: &mut [u8], n: u64) -> usize
 pub(crate) fn width(n: u64) -> usize
     ensures { result ≡ length (figures n) }
 {
-    if n < 10 {
-        return 1;
-    }
-    width(n / 10) + 1
+    n.checked_ilog10().unwrap_or(0) as usize + 1
 }
 
-fn put_space(out: &mut [u8], at: usize)
-    requires { at < length out.old }
-    ensures { out.new ≡ slice_set out.old at 32 }
+// Makes all of `out` spaces.
+pub(crate) fn put_spaces(out: &mut [u8])
+    ensures { out.new ≡ replicate (length out.old) 32 }
 {
-    out[at] = b' ';
-}
-
-// Writes spaces from `from` on.
-pub(crate) fn put_spaces(out: &mut [u8], from: usize)
-    requires { from ≤ length out.old }
-    ensures { out.new ≡ take from out.old ++ replicate (length out.old - from) 32 }
-{
-    for at in from..out.len() {
-        put_space(out, at);
-    }
+    out.fill(b' ');
 }

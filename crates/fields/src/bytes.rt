@@ -28,9 +28,5 @@ pub(crate) fn all_printable(s: &[u8]) -> bool
 pub(crate) fn put(out: &mut [u8], at: usize, text: &[u8]) -> Result<(), Fault>
     ensures { Writes text.now out.old at result out.new }
 {
-    if digits::put(out, at, text) {
-        Ok(())
-    } else {
-        Err(Fault::NoRoom)
-    }
+    Ok(digits::put(out, at, text)?)
 }

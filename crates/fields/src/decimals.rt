@@ -133,11 +133,7 @@ impl<K: DecimalKind> Decimal<K> {
             width,
             places,
         };
-        if text.write(out, at) {
-            Ok(())
-        } else {
-            Err(Fault::NoRoom)
-        }
+        Ok(text.write(out, at)?)
     }
 
     // The value of this count.

@@ -48,11 +48,7 @@ impl<const W: usize> Integer<W> {
             value: self.value,
             width: W,
         };
-        if text.write(out, at) {
-            Ok(())
-        } else {
-            Err(Fault::NoRoom)
-        }
+        Ok(text.write(out, at)?)
     }
 
     // The integer of this value.

@@ -1,71 +1,57 @@
-use Rattle.std.proofs.Common.{◌≡◌, ◌+◌, ◌-◌, ◌*◌, ◌^◌, length, get_or, drop, sym, refl, ap, ◌∙◌, subst, ⊎_elim, arith}
+use Rattle.std.proofs.Common.{◌+◌, ◌-◌, ◌*◌, ◌^◌, ◌≤◌, length, sym, ap, ◌∙◌, subst, arith}
 use Rattle.std.specs.List.{AllByRecursion}
 use Rattle.std.proofs.lemmas.Bool.Decides.{not_from_Decides}
-use Rattle.digits.specs.Bytes.{Space}
-use Rattle.digits.specs.Numerals.{front}
+use Rattle.std.proofs.lemmas.List.{length-append}
+use Rattle.digits.specs.Bytes.{Digit}
+use Rattle.digits.specs.Numerals.{Decimal, read_on}
 use Rattle.digits.proofs.Counts.{one_count}
-use Rattle.digits.proofs.Fronts.{pow10_more, scaled_room}
-use Rattle.digits.proofs.Shapes.{Cut, cut-decimal, decimal-cut, decimal_some, decimal_shape, plain_decimal}
+use Rattle.digits.proofs.Fronts.{front_digits, pow10_le, more_room, more_below, scaled_room}
+use Rattle.digits.proofs.Shapes.{one_part, decimal_parts, parts_decimal}
 use Rattle.digits.proofs.decimal.count.Goals as goal
-use Rattle.digits.proofs.decimal.count.Goals.{After-run-stop, then-not-some_but_few-via-then-not-some_but_few, then-not-some_but_few-via-else-not-some_but_few+then-not-spaces-2}
 
-pub returns-then-end-eq0 : goal.returns-then-end-eq0
-returns-then-end-eq0 c n d = omega (arith, decimal_some _ _ n d)
+pub returns-in_err-part : goal.returns-in_err-part
+returns-in_err-part c =
+    let k = c.cut_digits.ensures in
+    let none = λ (n : _) (d : Decimal c.args.places c.args.s.now n). c.in_err-part.ensures d.part (decimal_parts c.args.s.now _ _ k.digits k.whole c.args.places n d).1 in
+    rw c.from_residual.ensures none
 
-pub returns-then-not-spaces : goal.returns-then-not-spaces
-returns-then-not-spaces c n d =
-    let e : length (front c.args.s.now) ≡ c.run-end.result.0 = omega arith in
-    ⊎_elim
-    (λ h. not_from_Decides _ c.spaces.ensures c.if-not-spaces.true (subst (λ i. AllByRecursion Space (drop i c.args.s.now)) e h.spaces))
-    (λ h. not_from_Decides _ c.is_point.ensures c.if-not-is_point.true (omega (arith, h.inside), ap (λ i. get_or c.args.s.now i 0) (sym e) ∙ h.point))
-    (decimal_shape _ _ n d)
+pub returns-then-not-some_and_few : goal.returns-then-not-some_and_few
+returns-then-not-some_and_few c n d =
+    let k = c.cut_digits.ensures in
+    let p = decimal_parts c.args.s.now _ _ k.digits k.whole c.args.places n d in
+    let e = one_part _ _ _ p.1 c.in_ok-part.ensures in
+    not_from_Decides _ c.some_and_few.ensures c.if-not-some_and_few.true (p.0, omega (arith, d.part_few, ap length e))
+
+pub number-requires-clause-digits : goal.number-requires-clause-digits
+number-requires-clause-digits c = subst (AllByRecursion Digit) (sym c.cut_digits.ensures.digits) (front_digits c.args.s.now)
+
+pub number-requires-clause-room : goal.number-requires-clause-room
+number-requires-clause-room c =
+    let k = c.cut_digits.ensures in
+    omega (arith, pow10_le (length c.cut_digits.result.0.now) 18 (omega (arith, ap length k.whole, length-append c.cut_digits.result.0.now c.cut_digits.result.1.now)))
+
+pub number-n-requires-clause-room : goal.number-n-requires-clause-room
+number-n-requires-clause-room c =
+    let k = c.cut_digits.ensures in
+    let f = c.some_and_few.ensures.0 c.if-not-some_and_few.false in
+    more_room c.number.result (length c.cut_digits.result.0.now) (length c.in_ok-part.part.now) (omega arith)
+    (omega (arith, ap length k.whole, length-append c.cut_digits.result.0.now c.cut_digits.result.1.now))
 
 pub scaled-requires : goal.scaled-requires
-scaled-requires c = (scaled_room _ c.run-end.result.0 _ c.args.places c.run-end.ensures.bound refl (omega arith), omega arith)
-
-pub returns-then-not-is_point : goal.returns-then-not-is_point
-returns-then-not-is_point c =
-    let e : c.run-end.result.0 ≡ length (front c.args.s.now) = omega arith in
-    let d = plain_decimal c.args.places c.args.s.now c.scaled.result (omega arith)
-    (record {
-      spaces = subst (λ i. AllByRecursion Space (drop i c.args.s.now)) e (c.spaces.ensures.0 c.if-not-spaces.false);
-      count = c.scaled.ensures ∙ ap (λ x. x * 10 ^ c.args.places) c.run-end.ensures.number;
-    }) in
-    (d, λ m f. one_count _ _ m _ f d)
-
-pub run-stop-requires : goal.run-stop-requires
-run-stop-requires c =
-    let e = pow10_more c.run-end.result.0 in
-    let p = c.is_point.ensures.0 c.if-not-is_point.false in
-    (omega arith, (omega arith, omega arith))
-
-cut : (c : After-run-stop) → Cut c.args.s.now c.run-end.result.0 c.run-end.result.1 c.run-stop.result.0 c.run-stop.result.1
-cut c =
-    let p = c.is_point.ensures.0 c.if-not-is_point.false in
-    record {
-      e_is = omega arith;
-      w_is = c.run-end.ensures.number;
-      inside = p.0;
-      point = p.1;
-      stop_is = c.run-stop.ensures.ends;
-      all_is = c.run-stop.ensures.number;
-    }
-
-pub returns-then-not-some_but_few : goal.returns-then-not-some_but_few
-returns-then-not-some_but_few c n d =
-    let k = decimal-cut (cut (goal.at.returns-then-not-some_but_few c).After-run-stop) c.args.places n d in
-    elim c.then-not-some_but_few.branch [
-      | then-not-some_but_few-via-then-not-some_but_few w ↦ not_from_Decides _ c.some_but_few.ensures w.if-not-some_but_few.true (k.0, k.1)
-      | then-not-some_but_few-via-else-not-some_but_few+then-not-spaces-2 w ↦ not_from_Decides _ w.spaces-else-not-some_but_few.ensures w.if-not-spaces-2.true k.2
-    ]
-
-pub scaled-requires-2 : goal.scaled-requires-2
-scaled-requires-2 c =
-    let f = c.some_but_few.ensures.0 c.if-not-some_but_few.false in
-    (scaled_room _ c.run-stop.result.0 _ (c.args.places - (c.run-stop.result.0 - (c.run-end.result.0 + 1))) c.run-stop.ensures.bound refl (omega arith), omega arith)
+scaled-requires c =
+    let k = c.cut_digits.ensures in
+    let f = c.some_and_few.ensures.0 c.if-not-some_and_few.false in
+    let i = length c.cut_digits.result.0.now in
+    let j = length c.in_ok-part.part.now in
+    let l : i + c.args.places ≤ 18 = omega (arith, ap length k.whole, length-append c.cut_digits.result.0.now c.cut_digits.result.1.now) in
+    let b = more_below c.number.result i j (omega arith) (omega arith) c.number-n.result c.number-n.ensures.bound in
+    (scaled_room c.number-n.result (i + j) (c.args.places - j) b (omega arith), omega arith)
 
 pub returns : goal.returns
 returns c =
-    let f = c.some_but_few.ensures.0 c.if-not-some_but_few.false in
-    let d = cut-decimal (cut (goal.at.returns c).After-run-stop) c.args.places c.scaled-2.result (omega arith) f.0 f.1 (c.spaces-else-not-some_but_few.ensures.0 c.if-not-spaces-2.false) c.scaled-2.ensures in
-    (d, λ m f. one_count _ _ m _ f d)
+    let k = c.cut_digits.ensures in
+    let part = c.in_ok-part.part.now in
+    let f = c.some_and_few.ensures.0 c.if-not-some_and_few.false in
+    let e = c.scaled.ensures ∙ ap (λ n. n * 10 ^ (c.args.places - length part)) (c.number-n.ensures.number ∙ ap (λ n. read_on n part) c.number.ensures.number) in
+    let d = parts_decimal c.args.s.now _ _ k.digits k.whole c.args.places c.scaled.result part f.0 c.in_ok-part.ensures f.1 e in
+    (d, λ m h. one_count _ _ m _ h d)
