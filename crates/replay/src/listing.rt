@@ -46,11 +46,17 @@ impl<'a, W: Write> Listing<'a, W> {
 
     // What is left after the last LF, and how much was reported.
     pub(crate) fn close(self) -> io::Result<()> {
-        let (place, length) = self.cutter.rest();
+        let Listing {
+            cutter,
+            packets,
+            faults,
+            out,
+        } = self;
+        let (place, length) = cutter.rest();
         if length > 0 {
-            writeln!(self.out, "rest {place} {length}")?;
+            writeln!(out, "rest {place} {length}")?;
         }
-        writeln!(self.out, "packets {} faults {}", self.packets, self.faults)?;
-        self.out.flush()
+        writeln!(out, "packets {packets} faults {faults}")?;
+        out.flush()
     }
 }
