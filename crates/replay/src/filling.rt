@@ -40,5 +40,5 @@ pub(crate) fn find_lf(piece: &[u8]) -> Option<usize>
     ensures { MatchOption result ((k : ℕ) → k < length piece.now → slice_index piece.now k ≢ 10)
         (λ i. (i < length piece.now) × (slice_index piece.now i ≡ 10) × ((k : ℕ) → k < i → slice_index piece.now k ≢ 10)) }
 {
-    piece.iter().position(|b| *b == b'\n')
+    memchr::memchr(b'\n', piece)
 }
