@@ -3,6 +3,7 @@ use fields::{Amount, Fault, Integer, Maker, OrderId, Pair, Price, Quantity, Time
 use packet::FormFault;
 use std::test::Fail;
 
+// Each of these is one chain; one for all types would take the reader and the count at every call.
 fn price(text: &[u8]) -> Option<u64> {
     Price::read(text).ok().map(|price| price.count())
 }

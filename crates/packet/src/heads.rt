@@ -1,5 +1,5 @@
 // The checks that come before the layout: 11, 12 and 13.
-ghost use Rattle.std.specs.Prelude.{◌≡◌, ℕ, ◌+◌, ◌<◌, ◌≤◌, length, Decides, MatchOption, slice_index, ◌≢◌};
+ghost use Rattle.std.specs.Prelude.{◌≡◌, ℕ, ◌+◌, ◌<◌, ◌≤◌, length, Decides, MatchOption, slice_index};
 ghost use Rattle.fields.specs.Bytes.{Printable};
 ghost use Rattle.packet.specs.Layouts.{PrintableTo};
 ghost use Rattle.packet.specs.Letters.{Letter, code};
@@ -8,7 +8,7 @@ ghost use Rattle.packet.specs.Verdict.{Headed};
 use crate::packets::FormFault;
 
 // The length of the longest packet, LF included.
-const LONGEST: usize = 49_152;
+pub const LONGEST: usize = 49_152;
 
 // The offset of the first byte that is not printable.
 // A loop with index, which stops at that byte: the form that the project asks for.

@@ -2,7 +2,8 @@
 ghost use Rattle.std.specs.Prelude.{◌≡◌, ℕ, ◌+◌, ◌^◌, ◌<◌, ◌≤◌, [], ◌++◌, length, take, MatchOption, ◌≢◌, slice_index};
 ghost use Rattle.replay.specs.Kept.{kept};
 
-use crate::held::{Held, LONGEST};
+use crate::held::Held;
+use packet::LONGEST;
 
 impl Held {
     pub(crate) fn new() -> Held

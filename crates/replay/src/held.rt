@@ -1,8 +1,7 @@
 // The packet being received.
 ghost use Rattle.std.specs.Prelude.{◌≡◌, length};
 
-// The length of the longest packet, LF included.
-pub(crate) const LONGEST: usize = 49_152;
+use packet::LONGEST;
 
 // Its first bytes, as many as the longest packet has, and how many bytes it has so far; those beyond are counted and not kept.
 // An array and a count, and no Vec: the memory of the packet being received is fixed.

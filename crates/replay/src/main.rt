@@ -12,10 +12,10 @@ mod tests;
 
 use anyhow::{anyhow, bail};
 use listing::Listing;
+use std::env;
 use std::fs::File;
 use std::io::{BufWriter, Read, Write};
 use std::process::ExitCode;
-use std::{env, io};
 
 const USAGE: &str = "usage: replay [FILE]";
 
