@@ -3,39 +3,25 @@ use fields::{Amount, Fault, Integer, Maker, OrderId, Pair, Price, Quantity, Time
 use packet::FormFault;
 use std::test::Fail;
 
+// Each of these is one chain; one for all types would take the reader and the count at every call.
 fn price(text: &[u8]) -> Option<u64> {
-    match Price::read(text) {
-        Ok(price) => Some(price.count()),
-        Err(_) => None,
-    }
+    Price::read(text).ok().map(|price| price.count())
 }
 
 fn amount(text: &[u8]) -> Option<u64> {
-    match Amount::read(text) {
-        Ok(amount) => Some(amount.count()),
-        Err(_) => None,
-    }
+    Amount::read(text).ok().map(|amount| amount.count())
 }
 
 fn quantity(text: &[u8]) -> Option<u64> {
-    match Quantity::read(text) {
-        Ok(quantity) => Some(quantity.count()),
-        Err(_) => None,
-    }
+    Quantity::read(text).ok().map(|quantity| quantity.count())
 }
 
 fn integer(text: &[u8]) -> Option<u64> {
-    match Integer::<4>::read(text) {
-        Ok(integer) => Some(integer.value()),
-        Err(_) => None,
-    }
+    Integer::<4>::read(text).ok().map(|integer| integer.value())
 }
 
 fn fault(body: &[u8]) -> Option<FormFault> {
-    match packet::read(body) {
-        Ok(_) => None,
-        Err(fault) => Some(fault),
-    }
+    packet::read(body).err()
 }
 
 #[test]

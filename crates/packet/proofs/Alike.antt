@@ -25,6 +25,15 @@ letter_back directory = refl
 pub same_letter : (l m : Letter) (c : ℕ) → c ≡ code l → c ≡ code m → l ≡ m
 same_letter l m c a b = sym (letter_back l) ∙ ap letter_at (sym a ∙ b) ∙ letter_back m
 
+-- the six codes are of letters
+pub told_by_code : (c : ℕ) → (c ≡ 65) ⊎ ((c ≡ 69) ⊎ ((c ≡ 72) ⊎ ((c ≡ 74) ⊎ ((c ≡ 82) ⊎ (c ≡ 83))))) → (l : Letter) × (c ≡ code l)
+told_by_code c (inl e) = (accepted, e)
+told_by_code c (inr (inl e)) = (explained, e)
+told_by_code c (inr (inr (inl e))) = (heartbeat, e)
+told_by_code c (inr (inr (inr (inl e)))) = (rejected, e)
+told_by_code c (inr (inr (inr (inr (inl e))))) = (directory, e)
+told_by_code c (inr (inr (inr (inr (inr e))))) = (sequenced, e)
+
 -- the packets of a letter
 abbrev pub Shape : Letter → Packet → Type 0
 Shape accepted p = (n : Integer 10) × (p ≡ LoginAccepted n)

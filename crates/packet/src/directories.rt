@@ -13,10 +13,7 @@ fn is_pair(body: &[u8], k: usize) -> bool
     ensures { Decides result (Paired (field (5 + 7 * k) 7 body.now)) }
 {
     let at = 5 + 7 * k;
-    match Pair::read(&body[at..at + 7]) {
-        Ok(_) => true,
-        Err(_) => false,
-    }
+    Pair::read(&body[at..at + 7]).is_ok()
 }
 
 // The first of the n pairs that is not in form.
@@ -26,12 +23,7 @@ fn first_bad_pair(body: &[u8], n: usize) -> Option<usize>
         ((k : ℕ) → k < n → Paired (field (5 + 7 * k) 7 body.now))
         (λ k. (k < n) × (Paired (field (5 + 7 * k) 7 body.now) → ⊥) × ((j : ℕ) → j < k → Paired (field (5 + 7 * j) 7 body.now))) }
 {
-    for k in 0..n {
-        if !is_pair(body, k) {
-            return Some(k);
-        }
-    }
-    None
+    (0..n).find(|k| !is_pair(body, *k))
 }
 
 // The fault of the pair number k.
@@ -49,9 +41,7 @@ pub(crate) fn directory(body: &[u8]) -> Result<Packet, FormFault>
     if body.len() < 5 {
         return Err(FormFault::WrongLength);
     }
-    let Ok(pairs) = Integer::<4>::read(&body[1..5]) else {
-        return Err(FormFault::BadField(1));
-    };
+    let pairs = Integer::<4>::read(&body[1..5]).map_err(|_| FormFault::BadField(1))?;
     let n = pairs.value() as usize;
     if body.len() != 5 + 7 * n {
         return Err(FormFault::WrongLength);

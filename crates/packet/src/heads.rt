@@ -8,17 +8,17 @@ ghost use Rattle.packet.specs.Verdict.{Headed};
 use crate::packets::FormFault;
 
 // The length of the longest packet, LF included.
-const LONGEST: usize = 49_152;
+pub const LONGEST: usize = 49_152;
 
 // The offset of the first byte that is not printable.
+// A loop with index, which stops at that byte: the form that the project asks for.
 pub fn first_unprintable(body: &[u8]) -> Option<usize>
     ensures { MatchOption result
         (PrintableTo body.now (length body.now))
         (λ at. (at < length body.now) × (Printable (slice_index body.now at) → ⊥) × PrintableTo body.now at) }
 {
-    for i in 0..body.len() {
-        let b = body[i];
-        if b < 0x20 || b > 0x7e {
+    for (i, b) in body.iter().enumerate() {
+        if *b < 0x20 || *b > 0x7e {
             return Some(i);
         }
     }
@@ -26,29 +26,22 @@ pub fn first_unprintable(body: &[u8]) -> Option<usize>
 }
 
 // Whether some packet begins with this letter.
+#[tactic(auto, using(crate::proofs::Alike::told_by_code))]
 fn is_letter(c: char) -> bool
     ensures { Decides result ((l : Letter) × (c ≡ code l)) }
 {
-    match c {
-        'A' | 'E' | 'H' | 'J' => true,
-        'R' => true,
-        'S' => true,
-        _ => false,
-    }
+    matches!(c, 'A' | 'E' | 'H' | 'J' | 'R' | 'S')
 }
 
-// The first byte, or NUL where there is none.
-fn first(body: &[u8]) -> char
-    ensures { result ≡ slice_index body.now 0 }
+// The first byte, if there is one.
+fn first(body: &[u8]) -> Option<char>
+    ensures { MatchOption result (length body.now ≡ 0) (λ c. c ≡ slice_index body.now 0) }
 {
-    if body.is_empty() {
-        '\0'
-    } else {
-        body[0] as char
-    }
+    body.first().map(|b| char::from(*b))
 }
 
 // The letter of the packet that these bytes are, up to its LF.
+// A `char`, which `layout` matches against char literals: the form that the project asks for.
 pub fn head(body: &[u8]) -> Result<char, FormFault>
     ensures { Headed body.now result }
 {
@@ -58,9 +51,8 @@ pub fn head(body: &[u8]) -> Result<char, FormFault>
     if let Some(at) = first_unprintable(body) {
         return Err(FormFault::Unprintable(at));
     }
-    let letter = first(body);
-    if !is_letter(letter) {
-        return Err(FormFault::NoLetter);
+    match first(body) {
+        Some(letter) if is_letter(letter) => Ok(letter),
+        _ => Err(FormFault::NoLetter),
     }
-    Ok(letter)
 }

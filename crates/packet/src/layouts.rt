@@ -1,10 +1,22 @@
 // The readers of the layouts. Each looks at the bytes after the letter.
-ghost use Rattle.std.specs.Prelude.{◌≡◌};
+ghost use Rattle.std.specs.Prelude.{◌≡◌, length, MatchResult, ◌≢◌};
 ghost use Rattle.packet.specs.Verdict.{Matches};
 
 use crate::directories::directory;
 use crate::packets::{FormFault, Packet};
 use fields::{Integer, TimeOfDay};
+
+// A packet that has this many bytes and no field.
+fn fixed(packet: Packet, len: usize, body: &[u8]) -> Result<Packet, FormFault>
+    ensures { MatchResult result
+        (λ p. (p ≡ packet) × (length body.now ≡ len))
+        (λ f. (f ≡ FormFault.WrongLength) × (length body.now ≢ len)) }
+{
+    if body.len() != len {
+        return Err(FormFault::WrongLength);
+    }
+    Ok(packet)
+}
 
 fn login_accepted(body: &[u8]) -> Result<Packet, FormFault>
     ensures { Matches 65 body.now result }
@@ -12,19 +24,9 @@ fn login_accepted(body: &[u8]) -> Result<Packet, FormFault>
     if body.len() != 11 {
         return Err(FormFault::WrongLength);
     }
-    match Integer::<10>::read(&body[1..11]) {
-        Ok(number) => Ok(Packet::LoginAccepted(number)),
-        Err(_) => Err(FormFault::BadField(1)),
-    }
-}
-
-fn login_rejected(body: &[u8]) -> Result<Packet, FormFault>
-    ensures { Matches 74 body.now result }
-{
-    if body.len() != 21 {
-        return Err(FormFault::WrongLength);
-    }
-    Ok(Packet::LoginRejected)
+    Integer::<10>::read(&body[1..11])
+        .map(Packet::LoginAccepted)
+        .map_err(|_| FormFault::BadField(1))
 }
 
 fn sequenced(body: &[u8]) -> Result<Packet, FormFault>
@@ -36,28 +38,9 @@ fn sequenced(body: &[u8]) -> Result<Packet, FormFault>
     if body.len() < 11 {
         return Err(FormFault::WrongLength);
     }
-    match TimeOfDay::read(&body[1..10]) {
-        Ok(time) => Ok(Packet::Sequenced(time)),
-        Err(_) => Err(FormFault::BadField(1)),
-    }
-}
-
-fn heartbeat(body: &[u8]) -> Result<Packet, FormFault>
-    ensures { Matches 72 body.now result }
-{
-    if body.len() != 1 {
-        return Err(FormFault::WrongLength);
-    }
-    Ok(Packet::Heartbeat)
-}
-
-fn error_notification(body: &[u8]) -> Result<Packet, FormFault>
-    ensures { Matches 69 body.now result }
-{
-    if body.len() != 101 {
-        return Err(FormFault::WrongLength);
-    }
-    Ok(Packet::ErrorNotification)
+    TimeOfDay::read(&body[1..10])
+        .map(Packet::Sequenced)
+        .map_err(|_| FormFault::BadField(1))
 }
 
 // The packet of this letter that the bytes after the letter lay out.
@@ -66,10 +49,10 @@ pub fn layout(letter: char, body: &[u8]) -> Result<Packet, FormFault>
 {
     match letter {
         'A' => login_accepted(body),
-        'J' => login_rejected(body),
+        'J' => fixed(Packet::LoginRejected, 21, body),
         'S' => sequenced(body),
-        'H' => heartbeat(body),
-        'E' => error_notification(body),
+        'H' => fixed(Packet::Heartbeat, 1, body),
+        'E' => fixed(Packet::ErrorNotification, 101, body),
         'R' => directory(body),
         _ => Err(FormFault::NoLetter),
     }

@@ -9,7 +9,7 @@ mod numbers;
 mod packets;
 mod reader;
 
-pub use heads::{first_unprintable, head};
+pub use heads::{LONGEST, first_unprintable, head};
 pub use layouts::layout;
 pub use packets::{FormFault, Packet};
 pub use reader::{message, read};

@@ -6,16 +6,15 @@ use crate::heads::head;
 use crate::layouts::layout;
 use crate::packets::{FormFault, Packet};
 
+#[tactic(auto, using(crate::proofs::Forms::reads_from_matches))]
 fn verdict(body: &[u8]) -> Result<Packet, FormFault>
     ensures { Reads body.now result }
 {
-    match head(body) {
-        Ok(letter) => layout(letter, body),
-        Err(fault) => Err(fault),
-    }
+    layout(head(body)?, body)
 }
 
 // The packet that these bytes, up to its LF, lay out, or the first check that fails.
+#[tactic(auto, using(crate::proofs::Forms::exact_from_reads))]
 pub fn read(body: &[u8]) -> Result<Packet, FormFault>
     ensures reads { Reads body.now result }
     ensures exact { Exact body.now result }
@@ -27,6 +26,5 @@ pub fn read(body: &[u8]) -> Result<Packet, FormFault>
 pub fn message(body: &[u8]) -> &[u8]
     ensures { result.now ≡ drop 10 body.now }
 {
-    let start = body.len().min(10);
-    body.split_at(start).1
+    &body[body.len().min(10)..]
 }

@@ -3,8 +3,6 @@ use Rattle.std.specs.Prelude.{◌≡◌, ℕ, ◌+◌, ◌-◌, ◌<◌, cond, L
 use Rattle.replay.specs.Kept.{kept}
 use Rattle.replay.specs.declared.cutter.Cutter.{Cutter}
 use Rattle.replay.specs.declared.cutter.Cut.{Cut}
-use Rattle.replay.specs.declared.cutter.Answer.{Answer}
-use Rattle.replay.specs.declared.cutter.Answer.TheVariants.{More, Ended}
 
 -- the bytes taken so far
 abbrev pub taken : Cutter → ℕ
@@ -53,6 +51,7 @@ pub record TakesLine (s : Cutter) (piece : List ℕ) (r : Cut) (t : Cutter) : Ty
   pub fresh : count t ≡ 0
   pub packet : last t ≡ whole (count s + (i + 1)) (pending s ++ take i piece)
 
-abbrev pub Takes : Cutter → List ℕ → Answer → Cutter → Type 0
-Takes s piece More t = TakesAll s piece t
-Takes s piece (Ended r) t = TakesLine s piece r t
+-- a take tells the packet that it ended, or none
+abbrev pub Takes : Cutter → List ℕ → Option Cut → Cutter → Type 0
+Takes s piece None t = TakesAll s piece t
+Takes s piece (Some r) t = TakesLine s piece r t

@@ -3,17 +3,26 @@ ghost use Rattle.std.specs.Prelude.{◌≡◌, ℕ, ◌+◌, ◌^◌, ◌<◌, �
 ghost use Rattle.replay.specs.Kept.{kept};
 
 use crate::held::Held;
-
-const LONGEST: usize = 49152;
+use packet::LONGEST;
 
 impl Held {
     pub(crate) fn new() -> Held
         ensures { (result.count ≡ 0) × (kept result ≡ []) }
     {
         Held {
-            bytes: [0; 49152],
+            bytes: [0; LONGEST],
             count: 0,
         }
+    }
+
+    // Stores as much of the piece as has room, and does not count it.
+    fn store(&mut self, piece: &[u8])
+        ensures same { self.new.count ≡ self.old.count }
+        ensures stored { take (self.old.count + length piece.now) self.new.bytes ≡ take 49152 (kept self.old ++ piece.now) }
+    {
+        let at = self.count.min(LONGEST);
+        let n = piece.len().min(LONGEST - at);
+        self.bytes[at..at + n].copy_from_slice(&piece[..n]);
     }
 
     // Adds the piece, and counts what is past the room without storing it.
@@ -22,12 +31,8 @@ impl Held {
         ensures count { self.new.count ≡ self.old.count + length piece.now }
         ensures kept { kept self.new ≡ take 49152 (kept self.old ++ piece.now) }
     {
-        let at = self.count;
-        if at < LONGEST {
-            let n = piece.len().min(LONGEST - at);
-            self.bytes[at..at + n].copy_from_slice(&piece[0..n]);
-        }
-        self.count = at + piece.len();
+        self.store(piece);
+        self.count += piece.len();
     }
 }
 
@@ -36,10 +41,5 @@ pub(crate) fn find_lf(piece: &[u8]) -> Option<usize>
     ensures { MatchOption result ((k : ℕ) → k < length piece.now → slice_index piece.now k ≢ 10)
         (λ i. (i < length piece.now) × (slice_index piece.now i ≡ 10) × ((k : ℕ) → k < i → slice_index piece.now k ≢ 10)) }
 {
-    for (i, b) in piece.iter().enumerate() {
-        if *b == b'\n' {
-            return Some(i);
-        }
-    }
-    None
+    memchr::memchr(b'\n', piece)
 }

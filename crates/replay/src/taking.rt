@@ -3,7 +3,7 @@ ghost use Rattle.std.specs.Prelude.{◌≡◌, ℕ, ◌+◌, ◌<◌, ◌≤◌,
 ghost use Rattle.replay.specs.Kept.{kept};
 ghost use Rattle.replay.specs.Cutting.{stood, count, pending, last, taken, Takes};
 
-use crate::cutter::{Answer, Cut, Cutter, TooMany};
+use crate::cutter::{Cut, Cutter, TooMany};
 use crate::filling::find_lf;
 use crate::held::Held;
 
@@ -31,8 +31,18 @@ impl Cutter {
         }
     }
 
-    // Takes a piece up to its first LF, or whole where it has none.
-    pub(crate) fn take(&mut self, piece: &[u8]) -> Result<Answer, TooMany>
+    // The place of the held packet, which has ended after so many bytes of the piece.
+    fn cut(&self, taken: usize) -> Cut
+        ensures { (result.place ≡ self.now.before) × (result.taken ≡ taken) }
+    {
+        Cut {
+            place: self.before,
+            taken,
+        }
+    }
+
+    // Takes a piece up to its first LF, which ends a packet, or whole where it has none.
+    pub(crate) fn take(&mut self, piece: &[u8]) -> Result<Option<Cut>, TooMany>
         ensures { MatchResult result
             (λ a. (taken self.old + length piece.now ≤ 1000000000000) × Takes self.old piece.now a self.new)
             (λ _. (1000000000000 < taken self.old + length piece.now) × (self.new ≡ self.old)) }
@@ -41,31 +51,24 @@ impl Cutter {
             return Err(TooMany);
         }
         self.turn();
-        match find_lf(piece) {
-            None => {
-                self.held.fill(piece);
-                Ok(Answer::More)
-            }
-            Some(i) => {
-                self.held.fill(&piece[0..i + 1]);
-                self.ended = true;
-                Ok(Answer::Ended(Cut {
-                    place: self.before,
-                    taken: i + 1,
-                }))
-            }
-        }
+        let Some(lf) = find_lf(piece) else {
+            self.held.fill(piece);
+            return Ok(None);
+        };
+        self.held.fill(&piece[..lf + 1]);
+        self.ended = true;
+        Ok(Some(self.cut(lf + 1)))
     }
 
     // The packet that the last take ended, without its LF; none where it did not end one, or one that is too long.
     pub(crate) fn packet(&self) -> Option<&[u8]>
         ensures { MatchOption result (last self.now ≡ None) (λ p. last self.now ≡ Some p.now) }
     {
-        if self.ended && self.held.count <= 49152 {
-            Some(&self.held.bytes[0..self.held.count.saturating_sub(1)])
-        } else {
-            None
+        if !self.ended {
+            return None;
         }
+        let whole = self.held.bytes.get(..self.held.count)?;
+        Some(&whole[..whole.len().saturating_sub(1)])
     }
 
     // The place and length of the bytes after the last LF.

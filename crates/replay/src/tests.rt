@@ -1,21 +1,15 @@
 // A packet over 49,152 bytes, handed over in pieces.
-use crate::cutter::{Answer, Cut, Cutter};
+use crate::cutter::{Cut, Cutter};
 use crate::events;
 use packet::FormFault;
 use std::test::Fail;
 
 fn ended(cutter: &mut Cutter, piece: &[u8]) -> Option<Cut> {
-    match cutter.take(piece) {
-        Ok(Answer::Ended(cut)) => Some(cut),
-        _ => None,
-    }
+    cutter.take(piece).ok().flatten()
 }
 
 fn is_too_long(cutter: &Cutter) -> bool {
-    match events::outcome(cutter) {
-        Err(FormFault::TooLong) => true,
-        _ => false,
-    }
+    matches!(events::outcome(cutter), Err(FormFault::TooLong))
 }
 
 #[test]
