@@ -1,12 +1,14 @@
 // A book that keeps the ladder in adjoining slots.
 ghost use Rattle.std.specs.Prelude.{◌≡◌, ◌≤◌, vec_len, vec_capacity, nat_le};
 ghost use Rattle.book.specs.Rows.{orders, OfLadder};
+ghost use Rattle.book.specs.RowTests.{AheadOf};
 ghost use Rattle.book.specs.Packing.{ladder_sorted, ladder_distinct, orders_fit};
 
+use crate::finder;
 use crate::ladder::{Book, BookFault, MadeBook};
 use crate::order::{Order, Side, Terms};
 use crate::row::Row;
-use crate::{finder, rows};
+use crate::rows::reset_row;
 use fields::{Amount, OrderId, Pair, Price};
 use std::alloc::{AllocError, Global};
 
@@ -26,6 +28,15 @@ fn is_full(len: usize, capacity: usize) -> bool
     ensures { result ≡ nat_le capacity len }
 {
     len >= capacity
+}
+
+impl<T: Terms> PackedBook<T> {
+    // How many orders, from the first, stay in front of the order when it is placed.
+    fn place_for(&self, order: &Order<T>) -> usize
+        ensures { AheadOf order.now self.now.rows.items result }
+    {
+        self.rows.partition_point(|row| row.is_ahead(order))
+    }
 }
 
 impl<T: Terms> Book<T> for PackedBook<T> {
@@ -48,9 +59,9 @@ impl<T: Terms> Book<T> for PackedBook<T> {
         if is_full(self.len(), self.capacity()) {
             return Err(BookFault::Full);
         }
-        let rank = finder::place_for(&self.rows, order);
+        let rank = self.place_for(order);
         // There is a slot left, so this takes no memory.
-        let _ = self.rows.insert(rank, rows::row_of(order));
+        let _ = self.rows.insert(rank, order.to_row());
         Ok(())
     }
 
@@ -62,7 +73,7 @@ impl<T: Terms> Book<T> for PackedBook<T> {
         terms: T,
     ) -> Result<(), BookFault> {
         let rank = self.rank_of(pair, id).ok_or(BookFault::NotStanding)?;
-        self.rows[rank] = rows::reset_row(&self.rows[rank], amount, terms);
+        self.rows[rank] = reset_row(&self.rows[rank], amount, terms);
         Ok(())
     }
 
@@ -73,7 +84,7 @@ impl<T: Terms> Book<T> for PackedBook<T> {
     }
 
     fn clear(&mut self, pair: Pair) {
-        finder::take_off(&mut self.rows, &pair);
+        self.rows.retain(|row| !row.is_of(&pair));
     }
 
     #[tactic(auto, using(crate::specs::Packing::orders_length))]
@@ -86,7 +97,7 @@ impl<T: Terms> Book<T> for PackedBook<T> {
     }
 
     fn at(&self, rank: usize) -> Option<Order<T>> {
-        finder::row_at(&self.rows, rank).and_then(|row| rows::order_of(&row))
+        finder::row_at(&self.rows, rank).and_then(|row| Order::from_row(&row))
     }
 
     fn rank_of(&self, pair: Pair, id: OrderId) -> Option<usize> {
@@ -94,9 +105,11 @@ impl<T: Terms> Book<T> for PackedBook<T> {
     }
 
     fn rank_at(&self, pair: Pair, side: Side, price: Price) -> Option<usize> {
-        let rank = finder::first_from(&self.rows, &pair, side, price);
+        let rank = self
+            .rows
+            .partition_point(|row| !row.is_from(&pair, side, price));
         let row = finder::row_at(&self.rows, rank)?;
-        rows::is_at_level(&row, &pair, side, price).then_some(rank)
+        row.is_at_level(&pair, side, price).then_some(rank)
     }
 }
 

@@ -8,31 +8,33 @@ use crate::order::{Order, Side, Terms};
 use crate::row::Row;
 use fields::{Amount, OrderId, Pair, Price};
 
-pub(crate) fn row_of<T: Terms>(order: &Order<T>) -> Row<T::Row>
-    ensures { result ≡ order_row T.Terms.row order.now }
-{
-    Row {
-        pair: order.pair.bytes(),
-        side: order.side,
-        id: order.id.bytes(),
-        price: order.price.count(),
-        amount: order.amount.count(),
-        terms: order.terms.to_row(),
+impl<T: Terms> Order<T> {
+    pub(crate) fn to_row(&self) -> Row<T::Row>
+        ensures { result ≡ order_row T.Terms.row self.now }
+    {
+        Row {
+            pair: self.pair.bytes(),
+            side: self.side,
+            id: self.id.bytes(),
+            price: self.price.count(),
+            amount: self.amount.count(),
+            terms: self.terms.to_row(),
+        }
     }
-}
 
-// The order of a row, if the row is one of an order.
-pub(crate) fn order_of<T: Terms>(row: &Row<T::Row>) -> Option<Order<T>>
-    ensures { Remakes T.Terms.given row.now result }
-{
-    Some(Order {
-        pair: Pair::read(&row.pair).ok()?,
-        side: row.side,
-        id: OrderId::read(&row.id).ok()?,
-        price: Price::from_count(row.price)?,
-        amount: Amount::from_count(row.amount)?,
-        terms: T::from_row(row.terms),
-    })
+    // The order of a row, if the row is one of an order.
+    pub(crate) fn from_row(row: &Row<T::Row>) -> Option<Order<T>>
+        ensures { Remakes T.Terms.given row.now result }
+    {
+        Some(Order {
+            pair: Pair::read(&row.pair).ok()?,
+            side: row.side,
+            id: OrderId::read(&row.id).ok()?,
+            price: Price::from_count(row.price)?,
+            amount: Amount::from_count(row.amount)?,
+            terms: T::from_row(row.terms),
+        })
+    }
 }
 
 // The row with another amount and other terms.
@@ -46,40 +48,40 @@ pub(crate) fn reset_row<T: Terms>(row: &Row<T::Row>, amount: Amount, terms: T) -
     }
 }
 
-// The rows of a pair.
-pub(crate) fn is_of<R>(row: &Row<R>, pair: &Pair) -> bool
-    ensures { result ≡ row_of_pair pair.now row.now }
-{
-    row.pair == pair.bytes()
-}
+impl<R> Row<R> {
+    // Whether the row is of a pair.
+    pub(crate) fn is_of(&self, pair: &Pair) -> bool
+        ensures { result ≡ row_of_pair pair.now self.now }
+    {
+        self.pair == pair.bytes()
+    }
 
-// The row of a pair and id.
-pub(crate) fn is_named<R>(row: &Row<R>, pair: &Pair, id: &OrderId) -> bool
-    ensures { result ≡ row_named pair.now id.now row.now }
-{
-    is_of(row, pair) && row.id == id.bytes()
-}
+    pub(crate) fn is_named(&self, pair: &Pair, id: &OrderId) -> bool
+        ensures { result ≡ row_named pair.now id.now self.now }
+    {
+        self.is_of(pair) && self.id == id.bytes()
+    }
 
-// The rows at a pair, side and price.
-pub(crate) fn is_at_level<R>(row: &Row<R>, pair: &Pair, side: Side, price: Price) -> bool
-    ensures { result ≡ row_at_level pair.now side price row.now }
-{
-    is_of(row, pair) && row.side == side && row.price == price.count()
-}
+    pub(crate) fn is_at_level(&self, pair: &Pair, side: Side, price: Price) -> bool
+        ensures { result ≡ row_at_level pair.now side price self.now }
+    {
+        self.is_of(pair) && self.side == side && self.price == price.count()
+    }
 
-// The rows that stay in front of an order when it is placed.
-pub(crate) fn is_ahead<R, T>(row: &Row<R>, order: &Order<T>) -> bool
-    ensures { result ≡ row_ahead row.now order.now }
-{
-    let price = order.price.count();
-    let within = compare::is_leading(row.side, row.price, order.side, price);
-    compare::is_first(&row.pair, &order.pair.bytes(), within)
-}
+    // Whether the row's order stays in front of another when that is placed.
+    pub(crate) fn is_ahead<T>(&self, order: &Order<T>) -> bool
+        ensures { result ≡ row_ahead self.now order.now }
+    {
+        let price = order.price.count();
+        let within = compare::is_leading(self.side, self.price, order.side, price);
+        compare::is_first(&self.pair, &order.pair.bytes(), within)
+    }
 
-// The rows at a pair, side and price, and those behind.
-pub(crate) fn is_from<R>(row: &Row<R>, pair: &Pair, side: Side, price: Price) -> bool
-    ensures { result ≡ row_from pair.now side price row.now }
-{
-    let within = compare::is_leading(side, price.count(), row.side, row.price);
-    compare::is_first(&pair.bytes(), &row.pair, within)
+    // Whether the row is at a pair, side and price, or behind.
+    pub(crate) fn is_from(&self, pair: &Pair, side: Side, price: Price) -> bool
+        ensures { result ≡ row_from pair.now side price self.now }
+    {
+        let within = compare::is_leading(side, price.count(), self.side, self.price);
+        compare::is_first(&pair.bytes(), &self.pair, within)
+    }
 }

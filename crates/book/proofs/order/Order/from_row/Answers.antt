@@ -7,7 +7,7 @@ use Rattle.fields.proofs.Sames.{pair_same, label_same, price_same, amount_same}
 use Rattle.book.specs.Rows.{whole_order, Formed, Remakes}
 use Rattle.book.specs.Packing.{same_order}
 use Rattle.book.proofs.Reading.{read_as, not_read}
-use Rattle.book.proofs.rows.order_of.Goals as goal
+use Rattle.book.proofs.order.Order.from_row.Goals as goal
 
 pub returns-in_err-ok : goal.returns-in_err-ok
 returns-in_err-ok g c =
