@@ -1,4 +1,4 @@
-use Rattle.std.proofs.Common.{not, vec_items, refl, rules, arith}
+use Rattle.std.proofs.Common.{not, vec_items, rules, arith}
 use Rattle.std.proofs.lemmas.Fn.{filter_same}
 use Rattle.book.specs.RowTests.{row_of_pair}
 use Rattle.book.specs.Packing.{cleared_holds}
