@@ -1,2 +1,3 @@
 pub mod Bytes
-pub mod Taking
+pub mod Found
+pub mod Reading

@@ -8,9 +8,10 @@ use Rattle.std.proofs.lemmas.Bool.Decides.{nat_tests}
 use Rattle.book.specs.Ladder.{OrderId, ahead, named, at_level, in_order, apart, stands, placed, without, placed_all, at_rank, reset, amended, Placed}
 use Rattle.book.specs.Calls.{Finds}
 use Rattle.std.specs.Str.{bytes_eq}
-use Rattle.fields.specs.Values.{Pair, Amount}
+use Rattle.fields.specs.Values.{Pair, Price, Amount}
+use Rattle.book.specs.declared.order.Side.{Side}
 use Rattle.book.specs.declared.order.Order.{Order}
-use Rattle.book.specs.Orderly.{ahead_total, ahead_trans, level_both, named_sym, split, bytes_same, same_bytes}
+use Rattle.book.specs.Orderly.{ahead_total, ahead_trans, level_both, named_sym, split, bytes_same, same_bytes, level_order, level_front}
 
 module _ {T : Type 0} where
   -- what is behind a later one is behind an earlier one
@@ -238,3 +239,10 @@ module _ {T : Type 0} where
 
   pub one_place : (o : Order T) (a b : List (Order T)) → in_order (a ++ (o ∷ b)) ≡ true → AllByRecursion (λ x. at_level o.pair o.side o.price x ≡ false) b → a ++ (o ∷ b) ≡ placed o (a ++ b)
   one_place o a b h n = sym (placed_between o a b (all_from_all_pass (λ x. ahead x o) a (middle_ahead a o b h)) (not_ahead o b (after_middle a o b h) n))
+
+  -- behind an order that those at a pair, side and price are ahead of or level with, and that is not there, none is there
+  pub none_level : (p : Pair) (s : Side) (c : Price) (x : Order T) → ahead (level_order p s c x) x ≡ true → at_level p s c x ≡ false → (l : List (Order T)) → list_all (λ z. ahead x z) l ≡ true → AllByRecursion (λ z. at_level p s c z ≡ false) l
+  none_level p s c x f n [] h = tt
+  none_level p s c x f n (z ∷ l) h =
+      let q = and_parts _ _ h in
+      (⊎_elim (λ e. absurd (both_ways _ n (level_front p s c x z f q.0 e))) (λ e. e) (split (at_level p s c z)), none_level p s c x f n l q.1)

@@ -7,7 +7,7 @@ use Rattle.std.specs.Str.{bytes_eq}
 use Rattle.std.proofs.lemmas.Slice.Eq.{bytes_eq-Decides}
 use Rattle.std.proofs.lemmas.Bool.{leb-true, leb-false, le-leb, true≢false, false≢true, both_ways, and_parts}
 use Rattle.std.proofs.lemmas.Bool.Decides.{nat_tests}
-use Rattle.fields.specs.Values.{Pair}
+use Rattle.fields.specs.Values.{Pair, Price}
 use Rattle.fields.proofs.Sames.{pair_same, label_same}
 use Rattle.book.specs.Sides.{before, leads, sides_agree, AsGood}
 use Rattle.book.specs.Ladder.{OrderId, ahead, Ahead, named, at_level}
@@ -53,6 +53,16 @@ leads_both Bid a Bid b h k = grind (arith, nat_tests)
 leads_both Bid a Offer b h k = absurd (false≢true k)
 leads_both Offer a Bid b h k = absurd (false≢true h)
 leads_both Offer a Offer b h k = grind (arith, nat_tests)
+
+sides_same : (s t : Side) → sides_agree s t ≡ true → s ≡ t
+sides_same Bid Bid h = refl
+sides_same Bid Offer h = absurd (false≢true h)
+sides_same Offer Bid h = absurd (false≢true h)
+sides_same Offer Offer h = refl
+
+leads_itself : (s : Side) (p : ℕ) → leads s p s p ≡ true
+leads_itself Bid p = le-leb p p (omega arith)
+leads_itself Offer p = le-leb p p (omega arith)
 
 pub bytes_same : (s t : List ℕ) → bytes_eq s t ≡ true → s ≡ t
 bytes_same s t h = (bytes_eq-Decides s t).0 h
@@ -143,3 +153,36 @@ module _ {T : Type 0} where
       let r = same_bytes x.pair.bytes x.pair.bytes refl in
       let v = leads_both x.side x.price.count y.side y.price.count in
       grind (arith, nat_tests)
+
+  -- the order at another pair, side and price
+  abbrev pub level_order : Pair → Side → Price → Order T → Order T
+  level_order p s c x = record { pair = p; side = s; id = x.id; price = c; amount = x.amount; terms = x.terms }
+
+  level_parts : (p : Pair) (s : Side) (c : Price) (x : Order T) → at_level p s c x ≡ true → (x.pair.bytes ≡ p.bytes) × (x.side ≡ s) × (x.price.count ≡ c.count)
+  unfolding at_level
+  level_parts p s c x h =
+      let a = and_parts _ _ h in
+      let b = and_parts _ _ a.1 in
+      let n = b.1 in
+      (bytes_same _ _ a.0, sides_same _ _ b.0, grind (arith, nat_tests))
+
+  -- those at one pair, side and price are level
+  pub level_ahead : (p : Pair) (s : Side) (c : Price) (x : Order T) → at_level p s c x ≡ true → ahead (level_order p s c x) x ≡ true
+  unfolding ahead
+  level_ahead p s c x h =
+      let e = level_parts p s c x h in
+      let b : leads s c.count x.side x.price.count ≡ true = ap₂ (leads s c.count) e.1 e.2 ∙ leads_itself s c.count in
+      ap (λ z. cond z (leads s c.count x.side x.price.count) (before p.bytes x.pair.bytes)) (same_bytes p.bytes x.pair.bytes (sym e.0)) ∙ b
+
+  ahead_level : (p : Pair) (s : Side) (c : Price) (x z : Order T) → at_level p s c z ≡ true → ahead x z ≡ true → ahead x (level_order p s c x) ≡ true
+  unfolding ahead
+  ahead_level p s c x z h k =
+      let e = level_parts p s c z h in
+      let a : bytes_eq x.pair.bytes p.bytes ≡ bytes_eq x.pair.bytes z.pair.bytes = ap (bytes_eq x.pair.bytes) (sym e.0) in
+      let b : before x.pair.bytes p.bytes ≡ before x.pair.bytes z.pair.bytes = ap (before x.pair.bytes) (sym e.0) in
+      let d : leads x.side x.price.count s c.count ≡ leads x.side x.price.count z.side z.price.count = ap₂ (leads x.side x.price.count) (sym e.1) (sym e.2) in
+      cc
+
+  -- an order that those at a pair, side and price do not stand behind, but that stands in front of one there, is there
+  pub level_front : (p : Pair) (s : Side) (c : Price) (x z : Order T) → ahead (level_order p s c x) x ≡ true → ahead x z ≡ true → at_level p s c z ≡ true → at_level p s c x ≡ true
+  level_front p s c x z f a h = level_both (level_order p s c x) x f (ahead_level p s c x z h a)

@@ -23,6 +23,10 @@ row_named p i x = row_of_pair p x && bytes_eq x.id i.bytes
 abbrev pub row_at_level : {R : Type 0} → Pair → Side → Price → Row R → Bool
 row_at_level p s c x = row_of_pair p x && (sides_agree x.side s && x.price == c.count)
 
+-- the row is at this pair, side and price, or behind: an order there leads it, or is level with it
+abbrev pub row_from : {R : Type 0} → Pair → Side → Price → Row R → Bool
+row_from p s c x = cond (bytes_eq p.bytes x.pair) (leads s c.count x.side x.price) (before p.bytes x.pair)
+
 -- the rank of the first row that passes, or none where none does
 abbrev pub First : {X : Type 0} → (X → Bool) → List X → Option ℕ → Type 0
 First test rs None = AllWithin (λ x. test x ≡ false) rs 0 (length rs)

@@ -3,6 +3,7 @@ use Rattle.std.specs.Prelude.{◌≡◌, ℕ, Bool, true, ◌&&◌, List, [], �
 use Rattle.std.proofs.lemmas.Bool.{and_parts}
 use Rattle.fields.specs.Forms.{paired, labelled}
 use Rattle.fields.specs.Ranges.{amounted, priced, PriceCount, AmountCount}
+use Rattle.book.specs.Ladder.{in_order, apart}
 use Rattle.book.specs.declared.order.Order.{Order}
 use Rattle.book.specs.declared.row.Row.{Row}
 
@@ -48,6 +49,12 @@ rest_formed r rs f = (and_parts (formed r) (all_formed rs) f).1
 abbrev pub orders : {R T : Type 0} → (R → T) → (rs : List (Row R)) → all_formed rs ≡ true → List (Order T)
 orders given [] f = []
 orders given (r ∷ rs) f = whole_order given r (form_of r (first_formed r rs f)) ∷ orders given rs (rest_formed r rs f)
+
+-- the rows are those of a ladder: each is the row of an order, the orders are in order, and no id stands twice in a pair
+pub record OfLadder {R : Type 0} (rs : List (Row R)) : Type 0 where
+  pub formed : all_formed rs ≡ true
+  pub sorted : in_order (orders (λ t. t) rs formed) ≡ true
+  pub distinct : apart (orders (λ t. t) rs formed) ≡ true
 
 -- the row of an order
 abbrev pub order_row : {R T : Type 0} → (T → R) → Order T → Row R

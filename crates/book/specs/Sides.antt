@@ -1,5 +1,6 @@
 -- The order of bytes, of sides and of prices.
 use Rattle.std.specs.Prelude.{ℕ, ◌≤◌, Bool, true, false, cond, List, [], ◌∷◌, ◌==◌, nat_le, nat_lt}
+use lib.Chars.{codes}
 use Rattle.book.specs.declared.order.Side.{Side}
 use Rattle.book.specs.declared.order.Side.TheVariants.{Bid, Offer}
 
@@ -28,3 +29,8 @@ leads Offer p Offer q = nat_le p q
 abbrev pub AsGood : Side → ℕ → ℕ → Type 0
 AsGood Bid p q = q ≤ p
 AsGood Offer p q = p ≤ q
+
+-- the side as it is printed
+abbrev pub side_name : Side → List ℕ
+side_name Bid = codes "bid"
+side_name Offer = codes "offer"

@@ -1,57 +1,30 @@
-// Comparisons of bytes, sides and prices.
-ghost use Rattle.std.specs.Prelude.{◌≡◌};
+// Comparisons of pairs, sides and prices.
+ghost use Rattle.std.specs.Prelude.{◌≡◌, cond};
 ghost use Rattle.std.specs.Str.{bytes_eq};
-ghost use Rattle.book.specs.Sides.{before, leads, sides_agree};
+ghost use Rattle.book.specs.Sides.{before, leads};
 
 use crate::order::Side;
+use std::cmp::Ordering;
 
-pub(crate) fn same(a: &[u8], b: &[u8]) -> bool
-    ensures { result ≡ bytes_eq a.now b.now }
+// Whether the first pair comes first in byte order; where the two are one pair, `within` decides.
+pub(crate) fn is_first(pair: &[u8; 7], other: &[u8; 7], within: bool) -> bool
+    ensures { result ≡ cond (bytes_eq pair.now other.now) within (before pair.now other.now) }
 {
-    a == b
-}
-
-pub(crate) fn same_side(a: Side, b: Side) -> bool
-    ensures { result ≡ sides_agree a b }
-{
-    match a {
-        Side::Bid => match b {
-            Side::Bid => true,
-            Side::Offer => false,
-        },
-        Side::Offer => match b {
-            Side::Bid => false,
-            Side::Offer => true,
-        },
+    match pair.cmp(other) {
+        Ordering::Less => true,
+        Ordering::Equal => within,
+        Ordering::Greater => false,
     }
-}
-
-// Whether `a` comes before `b` in byte order.
-pub(crate) fn byte_before(a: &[u8], b: &[u8]) -> bool
-    ensures { result ≡ before a.now b.now }
-{
-    let mut i = 0;
-    while i < a.len() && i < b.len() {
-        if a[i] != b[i] {
-            return a[i] < b[i];
-        }
-        i += 1;
-    }
-    a.len() < b.len()
 }
 
 // Whether, in one pair, an order of the first side and price that stands already leads one of the second.
 pub(crate) fn is_leading(side: Side, price: u64, other: Side, next: u64) -> bool
     ensures { result ≡ leads side price other next }
 {
-    match side {
-        Side::Bid => match other {
-            Side::Bid => next <= price,
-            Side::Offer => true,
-        },
-        Side::Offer => match other {
-            Side::Bid => false,
-            Side::Offer => price <= next,
-        },
+    match (side, other) {
+        (Side::Bid, Side::Bid) => next <= price,
+        (Side::Bid, Side::Offer) => true,
+        (Side::Offer, Side::Bid) => false,
+        (Side::Offer, Side::Offer) => price <= next,
     }
 }

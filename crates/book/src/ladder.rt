@@ -1,6 +1,6 @@
 // What a book is: a capacity and a ladder of standing orders.
 ghost use Rattle.std.specs.Prelude.{◌≡◌, ℕ, ◌≤◌, true, List, length};
-ghost use Rattle.book.specs.Ladder.{in_order, apart, named, at_level, at_rank, cleared};
+ghost use Rattle.book.specs.Ladder.{in_order, apart, named, at_level, at_rank, cleared, lookup};
 ghost use Rattle.book.specs.Calls.{number, Place, Amend, Remove, Finds, Makes};
 ghost use Rattle.book.specs.declared.order.Order.{Order};
 
@@ -85,4 +85,11 @@ pub trait MadeBook<T: Terms>: Book<T> + Sized {
     // An empty book of `slots` slots, or 512 if `slots` is more. No later call allocates.
     fn new(heap: Global, slots: usize) -> Result<Self, AllocError>
         ensures { Makes Self.Book.capacity Self.Book.ladder slots result };
+}
+
+// The standing order of a pair and id.
+pub fn standing<T: Terms, B: Book<T>>(book: &B, pair: Pair, id: OrderId) -> Option<Order<T>>
+    ensures { result ≡ lookup pair id (B.Book.ladder book.now) }
+{
+    book.rank_of(pair, id).and_then(|rank| book.at(rank))
 }

@@ -10,6 +10,6 @@ mod packed;
 mod row;
 mod rows;
 
-pub use ladder::{Book, BookFault, MadeBook};
+pub use ladder::{Book, BookFault, MadeBook, standing};
 pub use order::{Order, Side, Terms};
 pub use packed::PackedBook;

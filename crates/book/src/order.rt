@@ -1,12 +1,25 @@
 // Orders, and the terms that they carry.
-ghost use Rattle.std.specs.Prelude.{◌≡◌};
+ghost use Rattle.std.specs.Prelude.{◌≡◌, Some};
+ghost use Rattle.book.specs.Sides.{side_name};
 
 use fields::{Amount, OrderId, Pair, Price};
+use std::fmt;
 
 #[derive(Clone, Copy, PartialEq, Eq, Debug)]
 pub enum Side {
     Bid,
     Offer,
+}
+
+impl fmt::Display for Side {
+    ghost output = { λ side. Some (side_name side) };
+
+    fn fmt<W: fmt::Write>(&self, f: &mut fmt::Formatter<W>) -> fmt::Result {
+        f.write_str(match self {
+            Side::Bid => "bid",
+            Side::Offer => "offer",
+        })
+    }
 }
 
 // What an order carries besides its common fields. Terms lie in tables as plain rows: any row gives terms, and the row of

@@ -1,19 +1,19 @@
 // A book that keeps the ladder in adjoining slots.
-ghost use Rattle.std.specs.Prelude.{◌≡◌, ◌≤◌, true, vec_len, vec_capacity, nat_le};
-ghost use Rattle.book.specs.Ladder.{in_order, apart};
-ghost use Rattle.book.specs.Rows.{all_formed, orders};
+ghost use Rattle.std.specs.Prelude.{◌≡◌, ◌≤◌, not, vec_len, vec_capacity, nat_le};
+ghost use Rattle.book.specs.Rows.{orders, OfLadder};
+ghost use Rattle.book.specs.RowTests.{AheadOf, row_of_pair};
 ghost use Rattle.book.specs.Packing.{ladder_sorted, ladder_distinct, orders_fit};
 
+use crate::finder;
 use crate::ladder::{Book, BookFault, MadeBook};
 use crate::order::{Order, Side, Terms};
 use crate::row::Row;
-use crate::rows::{AtLevel, Named, OfPair};
-use crate::{finder, rows};
+use crate::rows::reset_row;
 use fields::{Amount, OrderId, Pair, Price};
 use std::alloc::{AllocError, Global};
 
-// The first `slots` places of the rows' memory are the book's slots. The last three facts say that the rows are those of
-// a ladder.
+// The first `slots` places of the rows' memory are the book's slots. The last fact says that the rows are those of a
+// ladder.
 #[derive(Drop)]
 pub struct PackedBook<T: Terms> {
     rows: Vec<Row<T::Row>>,
@@ -21,9 +21,7 @@ pub struct PackedBook<T: Terms> {
     ghost small: { slots ≤ 512 },
     ghost fits: { vec_len rows ≤ slots },
     ghost held: { slots ≤ vec_capacity rows },
-    ghost formed: { all_formed rows.items ≡ true },
-    ghost sorted: { in_order (orders (λ t. t) rows.items formed) ≡ true },
-    ghost distinct: { apart (orders (λ t. t) rows.items formed) ≡ true },
+    ghost ladder: { OfLadder rows.items },
 }
 
 fn is_full(len: usize, capacity: usize) -> bool
@@ -32,38 +30,38 @@ fn is_full(len: usize, capacity: usize) -> bool
     len >= capacity
 }
 
+impl<T: Terms> PackedBook<T> {
+    // How many orders, from the first, stay in front of the order when it is placed.
+    fn place_for(&self, order: &Order<T>) -> usize
+        ensures { AheadOf order.now self.now.rows.items result }
+    {
+        self.rows.partition_point(|row| row.is_ahead(order))
+    }
+}
+
 impl<T: Terms> Book<T> for PackedBook<T> {
     ghost capacity = { λ b. b.slots };
 
-    ghost ladder = { λ b. orders T.Terms.given b.rows.items b.formed };
+    ghost ladder = { λ b. orders T.Terms.given b.rows.items b.ladder.formed };
 
-    ghost sorted = { λ b. ladder_sorted T.Terms.given b.rows.items b.formed b.sorted b.distinct };
+    ghost sorted = { λ b. ladder_sorted T.Terms.given b.rows.items b.ladder };
 
-    ghost distinct = { λ b. ladder_distinct T.Terms.given b.rows.items b.formed b.sorted b.distinct };
+    ghost distinct = { λ b. ladder_distinct T.Terms.given b.rows.items b.ladder };
 
-    ghost fits = { λ b. orders_fit T.Terms.given b.rows.items b.formed (vec_len b.rows) b.slots b.rows.ok.0 b.fits };
+    ghost fits = { λ b. orders_fit T.Terms.given b.rows.items b.ladder.formed (vec_len b.rows) b.slots b.rows.ok.0 b.fits };
 
     ghost small = { λ b. b.small };
 
     fn place(&mut self, order: &Order<T>) -> Result<(), BookFault> {
-        if finder::first(
-            &self.rows,
-            &Named {
-                pair: order.pair,
-                id: order.id,
-            },
-        )
-        .is_some()
-        {
+        if self.rank_of(order.pair, order.id).is_some() {
             return Err(BookFault::Standing);
         }
         if is_full(self.len(), self.capacity()) {
             return Err(BookFault::Full);
         }
-        let at = finder::place_for(&self.rows, order);
-        let row = rows::row_of(order);
+        let rank = self.place_for(order);
         // There is a slot left, so this takes no memory.
-        let _ = self.rows.insert(at, row);
+        let _ = self.rows.insert(rank, order.to_row());
         Ok(())
     }
 
@@ -74,28 +72,28 @@ impl<T: Terms> Book<T> for PackedBook<T> {
         amount: Amount,
         terms: T,
     ) -> Result<(), BookFault> {
-        let Some(k) = finder::first(&self.rows, &Named { pair, id }) else {
-            return Err(BookFault::NotStanding);
-        };
-        let row = rows::reset_row(&self.rows[k], amount, terms);
-        self.rows[k] = row;
+        let rank = self.rank_of(pair, id).ok_or(BookFault::NotStanding)?;
+        self.rows[rank] = reset_row(&self.rows[rank], amount, terms);
         Ok(())
     }
 
     fn remove(&mut self, pair: Pair, id: OrderId) -> Result<(), BookFault> {
-        let Some(k) = finder::first(&self.rows, &Named { pair, id }) else {
-            return Err(BookFault::NotStanding);
-        };
-        finder::take_out(&mut self.rows, k);
+        let rank = self.rank_of(pair, id).ok_or(BookFault::NotStanding)?;
+        finder::take_out(&mut self.rows, rank);
         Ok(())
     }
 
     fn clear(&mut self, pair: Pair) {
-        finder::take_off(&mut self.rows, &OfPair(pair));
+        self.rows.retain(
+            |row|
+                ensures { result ≡ not (row_of_pair pair row.now) }
+            { !row.is_of(&pair) },
+        );
     }
 
+    #[tactic(auto, using(crate::specs::Packing::orders_length))]
     fn len(&self) -> usize {
-        finder::count(&self.rows)
+        self.rows.len()
     }
 
     fn capacity(&self) -> usize {
@@ -103,18 +101,19 @@ impl<T: Terms> Book<T> for PackedBook<T> {
     }
 
     fn at(&self, rank: usize) -> Option<Order<T>> {
-        match finder::row_at(&self.rows, rank) {
-            Some(row) => rows::order_of(&row),
-            None => None,
-        }
+        finder::row_at(&self.rows, rank).and_then(|row| Order::from_row(&row))
     }
 
     fn rank_of(&self, pair: Pair, id: OrderId) -> Option<usize> {
-        finder::first(&self.rows, &Named { pair, id })
+        finder::rank_named(&self.rows, &pair, &id)
     }
 
     fn rank_at(&self, pair: Pair, side: Side, price: Price) -> Option<usize> {
-        finder::first(&self.rows, &AtLevel { pair, side, price })
+        let rank = self
+            .rows
+            .partition_point(|row| !row.is_from(&pair, side, price));
+        let row = finder::row_at(&self.rows, rank)?;
+        row.is_at_level(&pair, side, price).then_some(rank)
     }
 }
 

@@ -4,11 +4,12 @@
 ghost use Rattle.std.specs.Prelude.{◌≡◌, min, IfOk};
 ghost use Rattle.std.proofs.Common.{rules};
 
-use anyhow::anyhow;
+use anyhow::Context;
 use book::{Book, BookFault, MadeBook, Order, PackedBook, Side, Terms};
 use fields::{Amount, OrderId, Pair, Price};
 use quotes::requote;
 use std::alloc::{AllocError, Global};
+use std::fmt;
 
 // Terms of one letter.
 #[derive(Clone, Copy)]
@@ -35,10 +36,7 @@ impl Terms for Mark {
 }
 
 fn pair_of(text: &str) -> anyhow::Result<Pair> {
-    match Pair::read(text.as_bytes()) {
-        Ok(pair) => Ok(pair),
-        Err(_) => Err(anyhow!("no pair")),
-    }
+    Pair::read(text.as_bytes()).ok().context("no pair")
 }
 
 // The id of three digits.
@@ -47,24 +45,15 @@ fn id_of(n: u32) -> anyhow::Result<OrderId> {
     bytes[0] = b'0' + (n / 100 % 10) as u8;
     bytes[1] = b'0' + (n / 10 % 10) as u8;
     bytes[2] = b'0' + (n % 10) as u8;
-    match OrderId::read(&bytes) {
-        Ok(id) => Ok(id),
-        Err(_) => Err(anyhow!("no id")),
-    }
+    OrderId::read(&bytes).ok().context("no id")
 }
 
 fn price_of(count: u64) -> anyhow::Result<Price> {
-    match Price::from_count(count) {
-        Some(price) => Ok(price),
-        None => Err(anyhow!("no price")),
-    }
+    Price::from_count(count).context("no price")
 }
 
 fn amount_of(count: u64) -> anyhow::Result<Amount> {
-    match Amount::from_count(count) {
-        Some(amount) => Ok(amount),
-        None => Err(anyhow!("no amount")),
-    }
+    Amount::from_count(count).context("no amount")
 }
 
 fn order_of(pair: &str, side: Side, n: u32, price: u64) -> anyhow::Result<Order<Mark>> {
@@ -79,30 +68,29 @@ fn order_of(pair: &str, side: Side, n: u32, price: u64) -> anyhow::Result<Order<
 }
 
 fn text_of(bytes: &[u8]) -> &str {
-    match std::str::from_utf8(bytes) {
-        Ok(text) => text.trim_end(),
-        Err(_) => "?",
-    }
+    std::str::from_utf8(bytes).map_or("?", |text| text.trim_end())
 }
 
-fn name_of(side: Side) -> &'static str {
-    match side {
-        Side::Bid => "bid",
-        Side::Offer => "offer",
-    }
-}
+// An order as a line shows it.
+#[derive(Drop)]
+struct Shown(Order<Mark>);
 
-fn print_order(rt: &HostRuntime, order: &Order<Mark>) -> anyhow::Result<()> {
-    let pair = order.pair.bytes();
-    let id = order.id.bytes();
-    let count = order.price.count();
-    let amount = order.amount.count();
-    let pair = text_of(&pair);
-    let id = text_of(&id);
-    let side = name_of(order.side);
-    let letter = order.terms.letter as char;
-    print!(rt; " [{pair} {side} {count} {id} {amount}{letter}]")?;
-    Ok(())
+impl fmt::Display for Shown {
+    fn fmt<W: fmt::Write>(&self, f: &mut fmt::Formatter<W>) -> fmt::Result {
+        let order = &self.0;
+        let pair = order.pair.bytes();
+        let id = order.id.bytes();
+        write!(
+            f,
+            "[{} {} {} {} {}{}]",
+            text_of(&pair),
+            order.side,
+            order.price.count(),
+            text_of(&id),
+            order.amount.count(),
+            order.terms.letter as char,
+        )
+    }
 }
 
 // The answer, the length, and the orders by rank.
@@ -113,17 +101,12 @@ fn print_book(
 ) -> anyhow::Result<()> {
     match answer {
         Ok(()) => print!(rt; "done")?,
-        Err(fault) => {
-            let number = fault.number();
-            print!(rt; "{number}")?
-        }
+        Err(fault) => print!(rt; "{}", fault.number())?,
     }
     let len = book.len();
     print!(rt; " {len}:")?;
-    for rank in 0..len {
-        if let Some(order) = book.at(rank) {
-            print_order(rt, &order)?;
-        }
+    for order in (0..len).filter_map(|rank| book.at(rank)) {
+        print!(rt; " {}", Shown(order))?;
     }
     println!(rt)?;
     Ok(())
@@ -186,10 +169,7 @@ fn ask_level(
 
 fn ask_at(rt: &HostRuntime, book: &PackedBook<Mark>, rank: usize) -> anyhow::Result<()> {
     match book.at(rank) {
-        Some(order) => {
-            print_order(rt, &order)?;
-            println!(rt)?;
-        }
+        Some(order) => println!(rt; " {}", Shown(order))?,
         None => println!(rt; "none")?,
     }
     Ok(())

@@ -1,10 +1,12 @@
 -- The repricing of an order, from what the book's calls answer.
-use Rattle.std.proofs.Common.{◌≡◌, ℕ, ◌≤◌, false, cond, List, length, is_some, Some, Ok, Err, Result, sym, refl, ap, ◌∙◌, subst, ap₂, arith}
+use Rattle.std.proofs.Common.{◌≡◌, ℕ, ◌≤◌, false, cond, List, length, is_some, Some, None, Option, Ok, Err, Result, sym, refl, ap, ◌∙◌, subst, ap₂, arith}
+use Rattle.std.specs.Option.{ok_or}
 use Rattle.fields.specs.Values.{Pair, Price}
 use Rattle.book.specs.Ladder.{OrderId, named, stands, lookup, placed, without}
 use Rattle.book.specs.Calls.{number, Place, Remove}
 use Rattle.quotes.specs.Quotes.{repriced, Reprice}
 use Rattle.book.specs.declared.ladder.BookFault.{BookFault}
+use Rattle.book.specs.declared.ladder.BookFault.TheVariants.{NotStanding}
 use Rattle.book.specs.declared.order.Order.{Order}
 use Rattle.book.specs.Orderly.{named_one}
 use Rattle.book.specs.Ladders.{without_gone, without_shorter}
@@ -18,6 +20,15 @@ module _ {T : Type 0} where
       let free : stands x.pair x.id m ≡ false = ap₂ (λ q j. stands q j m) one.0 one.1 ∙ ap (stands p i) gone ∙ without_gone p i l in
       let short = without_shorter p i l (lookup_stands p i l ∙ ap is_some found) in
       absurd (not_refused n m (repriced c x) (number e) put.0 free (omega (arith, ap length gone)))
+
+  -- what a look-up says where its answer is handed on by `ok_or` and `?`
+  pub standing_is : (o : Option (Order T)) (x : Order T) → Ok x ≡ ok_or o NotStanding → o ≡ Some x
+  standing_is None x e = absurd (cc)
+  standing_is (Some y) x e = let same : y ≡ x = cc in ap Some same
+
+  pub not_found : (l : List (Order T)) (p : Pair) (i : OrderId) (c : Price) (o : Option (Order T)) (r : Result (Unit {0}) BookFault) (y e : BookFault) → r ≡ Err y → y ≡ e → Err e ≡ ok_or o NotStanding → o ≡ lookup p i l → Reprice l p i c r l
+  not_found l p i c None r y e a b d h = let same : y ≡ NotStanding = cc in subst (λ z. Reprice l p i c z l) (sym (a ∙ ap Err same)) (refl, sym h, refl)
+  not_found l p i c (Some x) r y e a b d h = absurd (cc)
 
   -- a refusal of remove, handed on
   pub not_removed : (l : List (Order T)) (p : Pair) (i : OrderId) (c : Price) (r : Result (Unit {0}) BookFault) (y e : BookFault) (l' : List (Order T)) → r ≡ Err y → y ≡ e → Remove l p i (Err e) l' → Reprice l p i c r l'

@@ -10,7 +10,8 @@ use std::alloc::{AllocError, Global};
 
 mod repricing;
 
-pub use repricing::{at_price, reprice, standing};
+pub use book::standing;
+pub use repricing::{at_price, reprice};
 
 // A new book with one order in it, if it has a slot.
 pub fn opened<T: Terms, B: MadeBook<T> + Drop>(
@@ -37,8 +38,5 @@ pub fn requote<T: Terms, B: Book<T>>(
     ensures kept { B.Book.capacity book.new ≡ B.Book.capacity book.old }
 {
     reprice(book, pair, id, price)?;
-    match book.rank_of(pair, id) {
-        Some(rank) => Ok(rank),
-        None => Err(BookFault::NotStanding),
-    }
+    book.rank_of(pair, id).ok_or(BookFault::NotStanding)
 }

@@ -1,14 +1,22 @@
-use Rattle.std.proofs.Common.{◌≤◌, length, sym, ◌∙◌, subst}
+use Rattle.std.proofs.Common.{◌≤◌, length, sym, refl, ◌∙◌, subst}
 use Rattle.std.proofs.lemmas.Result.{err_from_is_err_and}
 use Rattle.book.specs.Calls.{Place}
-use Rattle.quotes.proofs.Repriced.{replaced, not_removed}
+use Rattle.quotes.proofs.Repriced.{replaced, standing_is, not_found, not_removed}
 use Rattle.quotes.proofs.repricing.reprice.Goals as goal
+
+pub returns-in_err-old : goal.returns-in_err-old
+returns-in_err-old g c =
+    let e = err_from_is_err_and c.from_residual.result c.from_residual.ensures.1 in
+    record {
+      reprice = not_found (g.B.Book.ladder c.args.book.now) c.args.pair c.args.id c.args.price c.standing.result c.from_residual.result e.0 c.in_err-old.field-0.0 e.1 e.2 c.in_err-old.ensures.value c.standing.ensures;
+      kept = refl;
+    }
 
 pub returns-in_err-remove : goal.returns-in_err-remove
 returns-in_err-remove g c =
-    let e = err_from_is_err_and c.from_residual.result c.from_residual.ensures.1 in
+    let e = err_from_is_err_and c.from_residual-in_err-remove.result c.from_residual-in_err-remove.ensures.1 in
     record {
-      reprice = not_removed (g.B.Book.ladder c.args.book.now) c.args.pair c.args.id c.args.price c.from_residual.result e.0 c.in_err-remove.field-0.0 (g.B.Book.ladder c.remove.new.self) e.1 e.2 c.in_err-remove.ensures.remove;
+      reprice = not_removed (g.B.Book.ladder c.args.book.now) c.args.pair c.args.id c.args.price c.from_residual-in_err-remove.result e.0 c.in_err-remove.field-0.0 (g.B.Book.ladder c.remove.new.self) e.1 e.2 c.in_err-remove.ensures.remove;
       kept = c.remove.ensures.kept;
     }
 
@@ -21,6 +29,6 @@ returns g c =
     let few = subst (λ n. length l ≤ n) (sym c.remove.ensures.kept) (g.met.B.Book.fits b) in
     let put = subst (λ o. Place (g.B.Book.capacity m) (g.B.Book.ladder m) o c.place.result (g.B.Book.ladder c.place.new.self)) c.at_price.ensures c.place.ensures.place in
     record {
-      reprice = replaced (g.B.Book.capacity m) l c.args.pair c.args.id c.args.price c.in-Some.old (g.B.Book.ladder m) c.place.result (g.B.Book.ladder c.place.new.self) few (sym c.in-Some.ensures) removed.1 put;
+      reprice = replaced (g.B.Book.capacity m) l c.args.pair c.args.id c.args.price c.in_ok-old.old (g.B.Book.ladder m) c.place.result (g.B.Book.ladder c.place.new.self) few (sym c.standing.ensures ∙ standing_is c.standing.result c.in_ok-old.old c.in_ok-old.ensures.value) removed.1 put;
       kept = c.place.ensures.kept ∙ c.remove.ensures.kept;
     }

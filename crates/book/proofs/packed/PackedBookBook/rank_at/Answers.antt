@@ -1,10 +1,36 @@
-use Rattle.std.proofs.Common.{vec_items, subst}
-use Rattle.book.specs.RowTests.{First, row_at_level}
-use Rattle.book.specs.Packing.{finds_level}
+use Rattle.std.proofs.Common.{◌≡◌, ◌<◌, ◌≤◌, true, false, not, length, slice_index_or, vec_items, sym, subst, rules, arith}
+use Rattle.std.specs.List.Sorted.{IsPartitionedBy, IsPartitionPoint}
+use Rattle.std.proofs.lemmas.List.Sorted.{IsPartitionPoint-from_clause}
+use Rattle.book.specs.Calls.{Finds}
+use Rattle.book.specs.Ladder.{at_level}
+use Rattle.book.specs.Rows.{orders}
+use Rattle.book.specs.RowTests.{row_from}
+use Rattle.book.specs.Packing.{ladder_sorted, level_parted, level_nowhere, level_told}
 use Rattle.book.proofs.packed.PackedBookBook.rank_at.Goals as goal
+
+pub returns-in_err-row : goal.returns-in_err-row
+returns-in_err-row g c =
+    let b = c.args.self.now in
+    let rs = vec_items b.rows in
+    let k = c.partition_point-rank.result in
+    let sorted = ladder_sorted g.T.Terms.given rs b.ladder in
+    let parted = subst (λ z. IsPartitionedBy (λ x. not (row_from c.args.pair c.args.side c.args.price x)) z) (sym c.deref.ensures.value) (level_parted g.T.Terms.given c.args.pair c.args.side c.args.price rs b.ladder.formed sorted) in
+    let point = IsPartitionPoint-from_clause (λ x. not (row_from c.args.pair c.args.side c.args.price x)) c.deref.result.now k c.partition_point-rank.ensures.partitioned parted (λ a t f' h. search rules) in
+    let split = subst (λ z. IsPartitionPoint (λ x. not (row_from c.args.pair c.args.side c.args.price x) ≡ true) (λ x. not (row_from c.args.pair c.args.side c.args.price x) ≡ false) z k) c.deref.ensures.value point in
+    let past = subst (λ z. length z ≤ k) c.deref-2.ensures.value c.in_err-row.ensures in
+    subst (λ z. Finds (at_level c.args.pair c.args.side c.args.price) (orders g.T.Terms.given rs b.ladder.formed) z) (sym c.from_residual.ensures)
+    (level_nowhere g.T.Terms.given c.args.pair c.args.side c.args.price rs b.ladder.formed sorted k split (λ m. absurd (omega arith)))
 
 pub returns : goal.returns
 returns g c =
     let b = c.args.self.now in
-    finds_level g.T.Terms.given c.args.pair c.args.side c.args.price (vec_items b.rows) b.formed c.first.result
-    (subst (λ z. First (row_at_level c.args.pair c.args.side c.args.price) z c.first.result) c.deref.ensures.value c.first.ensures)
+    let rs = vec_items b.rows in
+    let k = c.partition_point-rank.result in
+    let r = c.in_ok-row.row in
+    let sorted = ladder_sorted g.T.Terms.given rs b.ladder in
+    let parted = subst (λ z. IsPartitionedBy (λ x. not (row_from c.args.pair c.args.side c.args.price x)) z) (sym c.deref.ensures.value) (level_parted g.T.Terms.given c.args.pair c.args.side c.args.price rs b.ladder.formed sorted) in
+    let point = IsPartitionPoint-from_clause (λ x. not (row_from c.args.pair c.args.side c.args.price x)) c.deref.result.now k c.partition_point-rank.ensures.partitioned parted (λ a t f' h. search rules) in
+    let split = subst (λ z. IsPartitionPoint (λ x. not (row_from c.args.pair c.args.side c.args.price x) ≡ true) (λ x. not (row_from c.args.pair c.args.side c.args.price x) ≡ false) z k) c.deref.ensures.value point in
+    let here = subst (λ z. (k < length z) × (r ≡ slice_index_or z k r)) c.deref-2.ensures.value c.in_ok-row.ensures in
+    subst (λ z. Finds (at_level c.args.pair c.args.side c.args.price) (orders g.T.Terms.given rs b.ladder.formed) z) (sym c.then_some.ensures)
+    (level_told g.T.Terms.given c.args.pair c.args.side c.args.price rs b.ladder.formed sorted k r c.is_at_level.result here.0 here.1 c.is_at_level.ensures split)
