@@ -35,6 +35,7 @@ fn limits_of(min: Option<Quantity>, lot: Option<Quantity>) -> Result<Limits, usi
 }
 
 // Writes two quantities, one behind the other, at `at`.
+#[tactic(auto, using(crate::proofs::Behind::behind, crate::specs::Full::text_long))]
 fn write_both(first: &Quantity, second: &Quantity, out: &mut [u8], at: usize) -> Result<(), Fault>
     ensures { Writes (quantity_text first.now.count ++ quantity_text second.now.count) out.old at result out.new }
 {
