@@ -33,6 +33,7 @@ fn cancel_id(cancel: &[u8]) -> Result<OrderId, MessageFault>
 }
 
 // New.
+#[tactic(auto, unfolding(crate::specs::Orders::new_of))]
 pub fn read_new<V: Venue>(m: &[u8]) -> Result<Order<V::Terms>, MessageFault>
     ensures { result ≡ new_of V.form m.now }
 {
@@ -56,6 +57,7 @@ pub fn read_new<V: Venue>(m: &[u8]) -> Result<Order<V::Terms>, MessageFault>
 }
 
 // Modify at a venue where it has no price.
+#[tactic(auto, unfolding(crate::specs::Orders::amend_of))]
 fn read_amend<V: Venue>(m: &[u8]) -> Result<Modify<V::Terms>, MessageFault>
     ensures { result ≡ amend_of V.form m.now }
 {
@@ -77,6 +79,7 @@ fn read_amend<V: Venue>(m: &[u8]) -> Result<Modify<V::Terms>, MessageFault>
 }
 
 // The tail and the replaced id of a Modify with price, in the venue's order.
+#[tactic(auto, unfolding(crate::specs::Orders::end_of))]
 fn read_end<V: Venue>(m: &[u8]) -> Result<(V::Terms, Option<OrderId>), MessageFault>
     ensures { result ≡ end_of V.form m.now }
 {
@@ -103,6 +106,7 @@ pub fn replaced_at<V: Venue>() -> usize
 }
 
 // Modify at a venue where it has a price.
+#[tactic(auto, unfolding(crate::specs::Orders::reprice_of))]
 fn read_reprice<V: Venue>(m: &[u8]) -> Result<Modify<V::Terms>, MessageFault>
     ensures { result ≡ reprice_of V.form m.now }
 {
@@ -139,6 +143,7 @@ pub fn read_modify<V: Venue>(m: &[u8]) -> Result<Modify<V::Terms>, MessageFault>
 }
 
 // Cancel.
+#[tactic(auto, unfolding(crate::specs::Orders::cancel_of))]
 pub fn read_cancel(m: &[u8]) -> Result<Cancel, MessageFault>
     ensures { result ≡ cancel_of m.now }
 {
