@@ -1,20 +1,18 @@
 -- The ladder after a message, from what the book's calls answer.
-use Rattle.std.proofs.Common.{◌≡◌, ℕ, ◌<◌, ◌≤◌, true, false, not, ◌&&◌, List, length, Some, None, Ok, Err, Result, sym, refl, ap, ◌∙◌, arith}
+use Rattle.std.proofs.Common.{◌≡◌, true, false, not, ◌&&◌, List, Some, None, Ok, Err, sym, refl, ap, ◌∙◌, arith}
 use Rattle.std.proofs.lemmas.Bool.{cond-true, cond-false}
 use Rattle.fields.specs.declared.values.Pair.{Pair}
 use Rattle.fields.proofs.Sames.{label_same}
 use Rattle.book.specs.declared.order.Order.{Order}
 use Rattle.book.specs.declared.ladder.BookFault.{BookFault}
 use Rattle.book.specs.declared.ladder.BookFault.TheVariants.{NotStanding, Standing, Full}
-use Rattle.book.specs.Ladder.{OrderId, stands, lookup, placed, without}
-use Rattle.book.specs.Calls.{number, Place}
+use Rattle.book.specs.Ladder.{OrderId, stands, lookup, without}
+use Rattle.book.specs.Calls.{number}
 use Rattle.book.specs.Orderly.{bytes_same}
-use Rattle.book.specs.Ladders.{stands_others, without_gone, without_shorter}
-use Rattle.book.specs.Lookups.{not_refused}
+use Rattle.book.specs.Ladders.{stands_others, without_gone}
 use Rattle.venue.specs.Form as venue
 use Rattle.message.specs.declared.messages.Modify.{Modify}
 use Rattle.orders.specs.Applied.{refusal, ids_agree, target, target_at, taken, changed, modify_by, modify_after}
-use Rattle.orders.specs.Steps.{Done}
 
 pub by_31 : (f : BookFault) → number f ≡ 31 → f ≡ NotStanding
 by_31 NotStanding h = refl
@@ -38,16 +36,6 @@ module _ {T : Type 0} where
     | true ↦ λ e k. ap (λ j. stands p j (without p t l)) (sym (label_same 15 t i (bytes_same t.bytes i.bytes e))) ∙ without_gone p t l
     | false ↦ λ e k. stands_others p t i e l ∙ k
   ]) refl h
-
-  -- an order that takes the place of one that stands is not refused
-  pub replaces : (capacity : ℕ) (l : List (Order T)) (t : OrderId) (o : Order T) (m : List (Order T)) (r : Result (Unit {0}) BookFault) (l' : List (Order T)) →
-      length l ≤ capacity → stands o.pair t l ≡ true → stands o.pair o.id (without o.pair t l) ≡ false →
-      m ≡ without o.pair t l → Place capacity m o r l' → Done (placed o (without o.pair t l)) r l'
-  replaces capacity l t o m (Ok u) l' few stood free gone p = p.2 ∙ ap (placed o) gone
-  replaces capacity l t o m (Err e) l' few stood free gone p =
-      let short = without_shorter o.pair t l stood in
-      let room : length m < capacity = omega (arith, ap length gone) in
-      not_refused capacity m o (number e) p.0 (ap (stands o.pair o.id) gone ∙ free) room
 
   module _ (F : venue.Form T) (l : List (Order T)) (x : Modify T) where
     pub modify_none : lookup x.pair (target x) l ≡ None → modify_after F l x ≡ Err (refusal NotStanding (target_at F x.replaced))

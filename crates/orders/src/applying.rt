@@ -2,7 +2,6 @@
 ghost use Rattle.std.specs.Prelude.{◌≡◌, true, false};
 ghost use Rattle.book.specs.Ladder.{stands, lookup, without, placed};
 ghost use Rattle.orders.specs.Applied.{new_offset, new_after, cancel_after, target, taken, changed, modify_after, Applies};
-ghost use Rattle.orders.specs.Steps.{Done};
 
 use crate::naming::{self, ID_AT};
 use book::{Book, BookFault, Order, Side, Terms};
@@ -58,34 +57,31 @@ fn is_taken<T: Terms, B: Book<T>>(book: &B, change: &Modify<T>) -> bool
 }
 
 // Removes the target, and places the order.
-#[tactic(auto, using(crate::proofs::Afters::replaces))]
-fn replace<T: Terms, B: Book<T>>(
-    book: &mut B,
-    target: OrderId,
-    order: &Order<T>,
-) -> Result<(), BookFault>
+#[tactic(auto, using(book::specs::Ladders::without_shorter, book::specs::Lookups::not_refused))]
+fn replace<T: Terms, B: Book<T>>(book: &mut B, target: OrderId, order: &Order<T>)
     requires stood { stands order.now.pair target (B.Book.ladder book.old) ≡ true }
     requires free { stands order.now.pair order.now.id (without order.now.pair target (B.Book.ladder book.old)) ≡ false }
-    ensures done { Done (placed order.now (without order.now.pair target (B.Book.ladder book.old))) result (B.Book.ladder book.new) }
+    ensures done { B.Book.ladder book.new ≡ placed order.now (without order.now.pair target (B.Book.ladder book.old)) }
     ensures kept { B.Book.capacity book.new ≡ B.Book.capacity book.old }
 {
-    book.remove(order.pair, target)?;
-    book.place(order)
+    book.remove(order.pair, target).unwrap();
+    book.place(order).unwrap();
 }
 
 // Amends the target, or replaces it where there is a price.
-fn make<T: Terms, B: Book<T>>(book: &mut B, change: &Modify<T>, side: Side) -> Result<(), BookFault>
+fn make<T: Terms, B: Book<T>>(book: &mut B, change: &Modify<T>, side: Side)
     requires stood { stands change.now.pair (target change.now) (B.Book.ladder book.old) ≡ true }
     requires free { stands change.now.pair change.now.active (without change.now.pair (target change.now) (B.Book.ladder book.old)) ≡ false }
-    ensures done { Done (changed (B.Book.ladder book.old) change.now change.now.price side) result (B.Book.ladder book.new) }
+    ensures done { B.Book.ladder book.new ≡ changed (B.Book.ladder book.old) change.now change.now.price side }
     ensures kept { B.Book.capacity book.new ≡ B.Book.capacity book.old }
 {
     let target = naming::target_of(change);
     match change.price {
-        None => book.amend(change.pair, target, change.amount, change.terms)?,
-        Some(price) => replace(book, target, &naming::active_order(change, price, side))?,
+        None => book
+            .amend(change.pair, target, change.amount, change.terms)
+            .unwrap(),
+        Some(price) => replace(book, target, &naming::active_order(change, price, side)),
     }
-    Ok(())
 }
 
 // Modify: amends the target, or removes it and places the active id.
@@ -108,6 +104,6 @@ pub fn apply_modify<V: Venue, B: Book<V::Terms>>(
             at: ID_AT,
         }));
     }
-    make(book, change, old.side).map_err(|fault| BookRefusal { fault, at: ID_AT })?;
+    make(book, change, old.side);
     Ok(())
 }
