@@ -7,7 +7,6 @@ use crate::messages::{Cancel, Modify};
 use crate::reader::{tail, value};
 use book::{Order, Side};
 use fields::{Amount, OrderId, Pair, Price};
-use readers::Field;
 use venue::Venue;
 
 // Where the amount of a Modify with price ends.

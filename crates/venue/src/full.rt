@@ -10,11 +10,13 @@ use crate::terms::Limits;
 use fields::{Fault, Quantity};
 use readers::Field;
 
+// The bytes of a quantity.
 const WIDTH: usize = 16;
 
-// Where the minimum quantity and the lot size stand in the tail.
+// Where the minimum quantity stands in the tail.
 const MIN: usize = 0;
 
+// Where the lot size stands in the tail.
 const LOT: usize = 16;
 
 // The quantity at `at` of a tail.
