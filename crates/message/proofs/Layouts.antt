@@ -140,7 +140,7 @@ module _ {T : Type 0} (F : venue.Form T) (m : List ℕ) where
       → PairIs (field 1 7 m) c → LabelIs 15 (field 8 15 m) i → OptionalIs 10 PriceIs (field 23 10 m) v → AmountIs (field 33 16 m) a → EndSays F.modify_tail_first t j → IdSays F.modify_tail_first j
       → Outcome (LacksPrice F m) (RepriceRow F m) [] (cond (is_some j && not (is_some v)) (Err (Unpriced (replaced_offset F))) (Ok (record { pair = c; active = i; price = v; amount = a; replaced = j; terms = t })))
   last_outcome long c i v a t None p q r s e d = record { long = long; pair = p; active = q; price = r; amount = s; end = e; filled = λ h. refl }
-  last_outcome long c i (Some w) a t (Some j) p q r s e d = record { long = long; pair = p; active = q; price = r; amount = s; end = e; filled = λ h. let z : ◌≡◌ {A = ℕ} 0 1 = cc in absurd (omega arith) }
+  last_outcome long c i (Some w) a t (Some j) p q r s e d = record { long = long; pair = p; active = q; price = r; amount = s; end = e; filled = λ h. cc }
   last_outcome long c i None a t (Some j) p q r s e d = (refl, r, (j, d))
 
   pub reprice_tells : Tells (64 + F.width) (reprice_checks F m) (LacksPrice F m) (RepriceRow F m) m (reprice_of F m)
@@ -156,7 +156,7 @@ module _ {T : Type 0} (F : venue.Form T) (m : List ℕ) where
   unlacking : (v : Option Price) (j : Option OrderId) → (v ≡ None → j ≡ None) → (is_some j && not (is_some v)) ≡ false
   unlacking v None h = refl
   unlacking (Some p) (Some j) h = refl
-  unlacking None (Some j) h = let k = h refl in let z : ◌≡◌ {A = ℕ} 0 1 = cc in absurd (omega arith)
+  unlacking None (Some j) h = let k = h refl in cc
 
   reprice_complete : (x : Modify T) → RepriceRow F m x → reprice_of F m ≡ Ok x
   unfolding reprice_of

@@ -43,8 +43,8 @@ pub record ValueRead {A : Type 0} (m : List ℕ) (w : ℕ) (f : List ℕ → Opt
 module _ {A : Type 0} (m : List ℕ) (w : ℕ) (f : List ℕ → Option A) (p : ℕ) (v : A) where
   by_test : (b : Bool) (o : Option A) → leb (p + w) (length m) ≡ b → f (field p w m) ≡ o → ◌≡◌ {A = Reading A} (cond b (in_form p o) (Err (Miscounted p))) (Ok v) → ValueRead m w f p v
   by_test true (Some x) hb ho h = let same : x ≡ v = cc in record { within = leb-true (p + w) (length m) hb; value = ho ∙ ap Some same }
-  by_test true None hb ho h = let z : ◌≡◌ {A = ℕ} 0 1 = cc in absurd (omega arith)
-  by_test false o hb ho h = let z : ◌≡◌ {A = ℕ} 0 1 = cc in absurd (omega arith)
+  by_test true None hb ho h = cc
+  by_test false o hb ho h = cc
 
   pub value_read : value_at m w f p ≡ Ok v → ValueRead m w f p v
   unfolding value_at
@@ -57,8 +57,8 @@ pub record TailRead {T : Type 0} (F : venue.Form T) (m : List ℕ) (p : ℕ) (v 
 module _ {T : Type 0} (F : venue.Form T) (m : List ℕ) (p : ℕ) (v : T) where
   by_tail : (b : Bool) (o : Result T ℕ) → leb (p + F.width) (length m) ≡ b → F.reads (field p F.width m) ≡ o → ◌≡◌ {A = Reading T} (cond b (in_tail p o) (Err (Miscounted p))) (Ok v) → TailRead F m p v
   by_tail true (Ok x) hb ho h = let same : x ≡ v = cc in record { within = leb-true (p + F.width) (length m) hb; value = ho ∙ ap Ok same }
-  by_tail true (Err k) hb ho h = let z : ◌≡◌ {A = ℕ} 0 1 = cc in absurd (omega arith)
-  by_tail false o hb ho h = let z : ◌≡◌ {A = ℕ} 0 1 = cc in absurd (omega arith)
+  by_tail true (Err k) hb ho h = cc
+  by_tail false o hb ho h = cc
 
   pub tail_read : tail_at F m p ≡ Ok v → TailRead F m p v
   unfolding tail_at

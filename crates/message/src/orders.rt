@@ -1,38 +1,19 @@
 // The readers of the messages on one order.
 ghost use Rattle.std.specs.Prelude.{◌≡◌};
-ghost use Rattle.message.specs.Orders.{id_at, price_at, any_price_at, replaced_offset, new_of, amend_of, end_of, reprice_of, modify_of, cancel_of};
+ghost use Rattle.message.specs.Orders.{replaced_offset, new_of, amend_of, end_of, reprice_of, modify_of, cancel_of};
 
 use crate::fault::MessageFault;
 use crate::messages::{Cancel, Modify};
 use crate::reader::{tail, value};
 use book::{Order, Side};
 use fields::{Amount, OrderId, Pair, Price};
-use readers::Field;
 use venue::Venue;
 
 // Where the amount of a Modify with price ends.
 const AMOUNT_END: usize = 49;
 
-// The fields by which messages differ.
-fn new_price(m: &[u8]) -> Result<Price, MessageFault>
-    ensures { result ≡ price_at m.now 24 }
-{
-    value::<Price>(m, 24)
-}
-
-fn modify_price(m: &[u8]) -> Result<Option<Price>, MessageFault>
-    ensures { result ≡ any_price_at m.now 23 }
-{
-    value::<Option<Price>>(m, 23)
-}
-
-fn cancel_id(cancel: &[u8]) -> Result<OrderId, MessageFault>
-    ensures { result ≡ id_at cancel.now 8 }
-{
-    value::<OrderId>(cancel, 8)
-}
-
 // New.
+#[tactic(auto, unfolding(crate::specs::Orders::new_of))]
 pub fn read_new<V: Venue>(m: &[u8]) -> Result<Order<V::Terms>, MessageFault>
     ensures { result ≡ new_of V.form m.now }
 {
@@ -42,7 +23,7 @@ pub fn read_new<V: Venue>(m: &[u8]) -> Result<Order<V::Terms>, MessageFault>
     let side = value::<Side>(m, 1)?;
     let pair = value::<Pair>(m, 2)?;
     let id = value::<OrderId>(m, 9)?;
-    let price = new_price(m)?;
+    let price = value::<Price>(m, 24)?;
     let amount = value::<Amount>(m, 34)?;
     let terms = tail::<V>(m, 50)?;
     Ok(Order {
@@ -56,6 +37,7 @@ pub fn read_new<V: Venue>(m: &[u8]) -> Result<Order<V::Terms>, MessageFault>
 }
 
 // Modify at a venue where it has no price.
+#[tactic(auto, unfolding(crate::specs::Orders::amend_of))]
 fn read_amend<V: Venue>(m: &[u8]) -> Result<Modify<V::Terms>, MessageFault>
     ensures { result ≡ amend_of V.form m.now }
 {
@@ -77,6 +59,7 @@ fn read_amend<V: Venue>(m: &[u8]) -> Result<Modify<V::Terms>, MessageFault>
 }
 
 // The tail and the replaced id of a Modify with price, in the venue's order.
+#[tactic(auto, unfolding(crate::specs::Orders::end_of))]
 fn read_end<V: Venue>(m: &[u8]) -> Result<(V::Terms, Option<OrderId>), MessageFault>
     ensures { result ≡ end_of V.form m.now }
 {
@@ -103,6 +86,7 @@ pub fn replaced_at<V: Venue>() -> usize
 }
 
 // Modify at a venue where it has a price.
+#[tactic(auto, unfolding(crate::specs::Orders::reprice_of))]
 fn read_reprice<V: Venue>(m: &[u8]) -> Result<Modify<V::Terms>, MessageFault>
     ensures { result ≡ reprice_of V.form m.now }
 {
@@ -111,7 +95,7 @@ fn read_reprice<V: Venue>(m: &[u8]) -> Result<Modify<V::Terms>, MessageFault>
     }
     let pair = value::<Pair>(m, 1)?;
     let active = value::<OrderId>(m, 8)?;
-    let price = modify_price(m)?;
+    let price = value::<Option<Price>>(m, 23)?;
     let amount = value::<Amount>(m, 33)?;
     let (terms, replaced) = read_end::<V>(m)?;
     if replaced.is_some() && price.is_none() {
@@ -139,6 +123,7 @@ pub fn read_modify<V: Venue>(m: &[u8]) -> Result<Modify<V::Terms>, MessageFault>
 }
 
 // Cancel.
+#[tactic(auto, unfolding(crate::specs::Orders::cancel_of))]
 pub fn read_cancel(m: &[u8]) -> Result<Cancel, MessageFault>
     ensures { result ≡ cancel_of m.now }
 {
@@ -146,6 +131,6 @@ pub fn read_cancel(m: &[u8]) -> Result<Cancel, MessageFault>
         return Err(MessageFault::WrongLength);
     }
     let pair = value::<Pair>(m, 1)?;
-    let id = cancel_id(m)?;
+    let id = value::<OrderId>(m, 8)?;
     Ok(Cancel { pair, id })
 }

@@ -12,30 +12,25 @@ fn part(m: &[u8], at: usize, width: usize) -> Result<&[u8], MessageFault>
         (λ f. (at + width ≤ length m.now) × (f.now ≡ field at width m.now))
         (λ e. (length m.now < at + width) × (e ≡ MessageFault.Miscounted at)) }
 {
-    if at > m.len() || width > m.len() - at {
-        return Err(MessageFault::Miscounted(at));
-    }
-    Ok(&m[at..at + width])
+    m.get(at..)
+        .and_then(|rest| rest.get(..width))
+        .ok_or(MessageFault::Miscounted(at))
 }
 
 // The value of the field at `at`.
+#[tactic(auto, using(crate::proofs::Readings::value_short), unfolding(crate::specs::Reading::value_at))]
 pub fn value<F: Field>(m: &[u8], at: usize) -> Result<F, MessageFault>
     ensures { result ≡ value_at m.now F.WIDTH F.reads at }
 {
     let bytes = part(m, at, F::WIDTH)?;
-    match F::read(bytes) {
-        Some(value) => Ok(value),
-        None => Err(MessageFault::BadField(at)),
-    }
+    F::read(bytes).ok_or(MessageFault::BadField(at))
 }
 
 // The terms in the tail at `at`.
+#[tactic(auto, using(crate::proofs::Readings::tail_short), unfolding(crate::specs::Reading::tail_at))]
 pub fn tail<V: Venue>(m: &[u8], at: usize) -> Result<V::Terms, MessageFault>
     ensures { result ≡ tail_at V.form m.now at }
 {
     let bytes = part(m, at, V::width())?;
-    match V::read(bytes) {
-        Ok(terms) => Ok(terms),
-        Err(k) => Err(MessageFault::BadField(at + k)),
-    }
+    V::read(bytes).map_err(|k| MessageFault::BadField(at + k))
 }

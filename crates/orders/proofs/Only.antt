@@ -57,12 +57,12 @@ module _ {T : Type 0} where
 
   -- the order of a pair and id stands at one rank
   stands_at : (p : Pair) (i : OrderId) (l : List (Order T)) (k : ℕ) (y : Order T) → at_rank l k ≡ Some y → named p i y ≡ true → stands p i l ≡ true
-  stands_at p i [] k y e n = let z : ◌≡◌ {A = ℕ} 0 1 = cc in absurd (omega arith)
+  stands_at p i [] k y e n = cc
   stands_at p i (x ∷ l) zero y e n = let same : y ≡ x = cc in let m : named p i x ≡ true = ap (named p i) (sym same) ∙ n in grind (arith, nat_tests)
   stands_at p i (x ∷ l) (suc k) y e n = let ih = stands_at p i l k y e n in grind (arith, nat_tests)
 
   lookup_at : (p : Pair) (i : OrderId) (l : List (Order T)) (k : ℕ) (y : Order T) → apart l ≡ true → at_rank l k ≡ Some y → named p i y ≡ true → lookup p i l ≡ Some y
-  lookup_at p i [] k y d e n = let z : ◌≡◌ {A = ℕ} 0 1 = cc in absurd (omega arith)
+  lookup_at p i [] k y d e n = cc
   lookup_at p i (x ∷ l) zero y d e n = let same : y ≡ x = cc in cond-true (named p i x) _ _ (ap (named p i) (sym same) ∙ n) ∙ ap Some (sym same)
   lookup_at p i (x ∷ l) (suc k) y d e n =
       let parts = and_parts _ _ d in

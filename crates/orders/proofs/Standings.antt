@@ -51,7 +51,7 @@ module _ {T : Type 0} where
       go (Some o) e = (o, e)
 
   removed : (p : Pair) (i : OrderId) (l : List (Order T)) (o : Order T) → apart l ≡ true → lookup p i l ≡ Some o → Removed o l (without p i l)
-  removed p i [] o a h = let z : ◌≡◌ {A = ℕ} 0 1 = cc in absurd (omega arith)
+  removed p i [] o a h = cc
   removed p i (x ∷ l) o a h =
       let parts = and_parts _ _ a in
       (elim (named p i x) as (λ b. named p i x ≡ b → cond b (Some x) (lookup p i l) ≡ Some o → Removed o (x ∷ l) (cond b (without p i l) (x ∷ without p i l))) [

@@ -1,3 +1,2 @@
 pub mod Applied
 pub mod Laws
-pub mod Steps

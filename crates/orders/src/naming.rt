@@ -1,12 +1,14 @@
 // Which order a message means, and where it names it.
 ghost use Rattle.std.specs.Prelude.{◌≡◌};
-ghost use Rattle.std.specs.Str.{bytes_eq};
-ghost use Rattle.orders.specs.Applied.{new_offset, ids_agree, target, target_at, order_of_active};
+ghost use Rattle.orders.specs.Applied.{new_offset, target, target_at, order_of_active};
 
 use book::{BookFault, Order, Side};
 use fields::{OrderId, Price};
 use message::{Modify, replaced_at};
 use venue::Venue;
+
+// Where Cancel has its id, and Modify its active id.
+pub(crate) const ID_AT: usize = 8;
 
 // The offset that New's refusal has.
 pub(crate) fn new_at(fault: BookFault) -> usize
@@ -32,7 +34,7 @@ pub(crate) fn target_at<V: Venue>(replaced: Option<OrderId>) -> usize
 {
     match replaced {
         Some(_) => replaced_at::<V>(),
-        None => 8,
+        None => ID_AT,
     }
 }
 
@@ -48,18 +50,4 @@ pub(crate) fn active_order<T: Copy>(change: &Modify<T>, price: Price, side: Side
         amount: change.amount,
         terms: change.terms,
     }
-}
-
-fn same_bytes(a: &[u8], b: &[u8]) -> bool
-    ensures { result ≡ bytes_eq a.now b.now }
-{
-    a == b
-}
-
-pub(crate) fn same_id(a: OrderId, b: OrderId) -> bool
-    ensures { result ≡ ids_agree a b }
-{
-    let left = a.bytes();
-    let right = b.bytes();
-    same_bytes(&left, &right)
 }

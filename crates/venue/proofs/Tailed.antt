@@ -1,5 +1,6 @@
 -- What each venue reads and writes are the tails of its terms.
-use Rattle.std.proofs.Common.{◌≡◌, ℕ, List, [], ◌∷◌, length, take, drop, Some, None, Ok, Err, Option, sym, refl, ap, ◌∙◌, ap₂, arith, length-drop, take_all}
+use Rattle.std.proofs.Common.{◌≡◌, ℕ, List, length, take, drop, Some, None, Ok, Err, Option, sym, refl, ap, ◌∙◌, ap₂, arith, length-drop, take_all}
+use Rattle.std.proofs.lemmas.List.{nil_from_length}
 use Rattle.fields.specs.Values.{Quantity, Label}
 use Rattle.fields.proofs.Codecs.{label_codec}
 use Rattle.readers.specs.Values.{label_of, quantity_of}
@@ -15,28 +16,24 @@ use Rattle.venue.specs.declared.terms.MadeBy.{MadeBy}
 -- a tail is read, so it is not refused
 not_refused : {T : Type 0} (form : Form T) (Tail : List ℕ → T → Type 0) → ((bs : List ℕ) (t : T) → Tail bs t → form.reads bs ≡ Ok t)
     → (bs : List ℕ) (k : ℕ) → form.reads bs ≡ Err k → (t : T) → Tail bs t → ⊥
-not_refused form Tail complete bs k e t h = let z : ◌≡◌ {A = ℕ} 0 1 = cc (e, complete bs t h) in absurd (omega arith)
-
-none_long : (bs : List ℕ) → length bs ≡ 0 → bs ≡ []
-none_long [] h = refl
-none_long (b ∷ bs) h = absurd (omega arith)
+not_refused form Tail complete bs k e t h = cc (e, complete bs t h)
 
 basic_law : TailLaw basic_form BasicTail
 basic_law = record {
   long = λ bs t h. ap length h;
-  sound = λ bs t l e. none_long bs l;
+  sound = λ bs t l e. nil_from_length bs l;
   complete = λ bs t h. refl;
   refused = not_refused basic_form BasicTail (λ bs t h. refl);
   written = λ t. refl;
 }
 
 made_is : (m : Option (Label 16)) (t : MadeBy) → made_by m ≡ Ok t → m ≡ Some t.maker
-made_is None t e = let z : ◌≡◌ {A = ℕ} 0 1 = cc in absurd (omega arith)
+made_is None t e = cc
 made_is (Some m) t e = let z : record { maker = m } ≡ t = cc in ap (λ s. Some s.maker) z
 
 made_at : (m : Option (Label 16)) (k : ℕ) → made_by m ≡ Err k → k ≡ 0
 made_at None k e = cc
-made_at (Some m) k e = let z : ◌≡◌ {A = ℕ} 0 1 = cc in absurd (omega arith)
+made_at (Some m) k e = cc
 
 link_sound : (bs : List ℕ) (t : MadeBy) → link_reads bs ≡ Ok t → LinkTail bs t
 link_sound bs t e = (label_law 16).sound bs t.maker (made_is (label_of 16 bs) t e)
@@ -61,25 +58,25 @@ last_field : (bs : List ℕ) → length bs ≡ 32 → take 16 (drop 16 bs) ≡ d
 last_field bs l = take_all 16 (drop 16 bs) (omega (arith, length-drop 16 bs))
 
 limits_are : (min lot : Option Quantity) (t : Limits) → limits min lot ≡ Ok t → (min ≡ Some t.min) × (lot ≡ Some t.lot)
-limits_are None lot t e = let z : ◌≡◌ {A = ℕ} 0 1 = cc in absurd (omega arith)
-limits_are (Some min) None t e = let z : ◌≡◌ {A = ℕ} 0 1 = cc in absurd (omega arith)
+limits_are None lot t e = cc
+limits_are (Some min) None t e = cc
 limits_are (Some min) (Some lot) t e =
     let z : record { min = min; lot = lot } ≡ t = cc in
     (ap (λ s. Some s.min) z, ap (λ s. Some s.lot) z)
 
 limits_0 : (min lot : Option Quantity) → limits min lot ≡ Err 0 → min ≡ None
 limits_0 None lot e = refl
-limits_0 (Some min) None e = let z : ◌≡◌ {A = ℕ} 16 0 = cc in absurd (omega arith)
-limits_0 (Some min) (Some lot) e = let z : ◌≡◌ {A = ℕ} 0 1 = cc in absurd (omega arith)
+limits_0 (Some min) None e = cc
+limits_0 (Some min) (Some lot) e = cc
 
 limits_16 : (min lot : Option Quantity) → limits min lot ≡ Err 16 → ((q : Quantity) × (min ≡ Some q)) × (lot ≡ None)
-limits_16 None lot e = let z : ◌≡◌ {A = ℕ} 0 16 = cc in absurd (omega arith)
+limits_16 None lot e = cc
 limits_16 (Some min) None e = ((min, refl), refl)
-limits_16 (Some min) (Some lot) e = let z : ◌≡◌ {A = ℕ} 0 1 = cc in absurd (omega arith)
+limits_16 (Some min) (Some lot) e = cc
 
 -- bytes that read as none are no quantity's, and the other way round
 none_is : (bs : List ℕ) → quantity_of bs ≡ None → NoQuantity bs
-none_is bs e q h = let z : ◌≡◌ {A = ℕ} 0 1 = cc (e, quantity_law.complete bs q h) in absurd (omega arith)
+none_is bs e q h = cc (e, quantity_law.complete bs q h)
 
 no_some : {A : Type 0} (o : Option A) → ((x : A) → o ≡ Some x → ⊥) → o ≡ None
 no_some None h = refl

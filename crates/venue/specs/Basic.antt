@@ -8,7 +8,7 @@ abbrev pub basic_reads : List ℕ → Result NoTerms ℕ
 basic_reads bs = Ok (record {})
 
 pub basic_inside : (bs : List ℕ) (k : ℕ) → length bs ≡ 0 → basic_reads bs ≡ Err k → k < 0
-basic_inside bs k h e = let z : ◌≡◌ {A = ℕ} 0 1 = cc in absurd (omega arith)
+basic_inside bs k h e = cc
 
 abbrev pub basic_form : Form NoTerms
 basic_form = record {

@@ -31,7 +31,7 @@ full_writes t = quantity_text t.min.count ++ quantity_text t.lot.count
 limits_inside : (min lot : Option Quantity) (k : ℕ) → limits min lot ≡ Err k → k < 32
 limits_inside None lot k e = let z : 0 ≡ k = cc in omega arith
 limits_inside (Some min) None k e = let z : 16 ≡ k = cc in omega arith
-limits_inside (Some min) (Some lot) k e = let z : ◌≡◌ {A = ℕ} 0 1 = cc in absurd (omega arith)
+limits_inside (Some min) (Some lot) k e = cc
 
 pub full_inside : (bs : List ℕ) (k : ℕ) → length bs ≡ 32 → full_reads bs ≡ Err k → k < 32
 full_inside bs k l e = limits_inside (quantity_from 0 bs) (quantity_from 16 bs) k e

@@ -20,7 +20,7 @@ link_writes t = t.maker.bytes
 
 made_by_inside : (m : Option (Label 16)) (k : ℕ) → made_by m ≡ Err k → k < 16
 made_by_inside None k e = let z : 0 ≡ k = cc in omega arith
-made_by_inside (Some m) k e = let z : ◌≡◌ {A = ℕ} 0 1 = cc in absurd (omega arith)
+made_by_inside (Some m) k e = cc
 
 pub link_inside : (bs : List ℕ) (k : ℕ) → length bs ≡ 16 → link_reads bs ≡ Err k → k < 16
 link_inside bs k l e = made_by_inside (label_of 16 bs) k e

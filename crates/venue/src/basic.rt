@@ -2,22 +2,21 @@
 ghost use Rattle.venue.specs.Basic.{basic_form};
 
 use crate::kind::Venue;
+use crate::room::check_room;
 use crate::terms::NoTerms;
 use fields::Fault;
 
 // Orders without terms; a Modify without price.
 #[derive(Clone, Copy)]
-pub struct BasicEcn {}
+pub struct BasicEcn;
 
 impl Venue for BasicEcn {
     type Terms = NoTerms;
 
-    const TAIL: usize = 0;
-
     ghost form = { basic_form };
 
     fn width() -> usize {
-        Self::TAIL
+        0
     }
 
     fn priced() -> bool {
@@ -33,14 +32,10 @@ impl Venue for BasicEcn {
     }
 
     fn read(tail: &[u8]) -> Result<NoTerms, usize> {
-        Ok(NoTerms {})
+        Ok(NoTerms)
     }
 
     fn write(terms: &NoTerms, out: &mut [u8], at: usize) -> Result<(), Fault> {
-        if at <= out.len() {
-            Ok(())
-        } else {
-            Err(Fault::NoRoom)
-        }
+        check_room(out, at, 0)
     }
 }

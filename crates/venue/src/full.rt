@@ -1,17 +1,22 @@
 // The Full ECN.
-ghost use Rattle.std.specs.Prelude.{◌≡◌, ◌+◌, ◌≤◌, ◌++◌, Decides};
+ghost use Rattle.std.specs.Prelude.{◌≡◌, ◌≤◌, ◌++◌};
 ghost use Rattle.fields.specs.Calls.{Writes};
 ghost use Rattle.fields.specs.Fields.{quantity_text};
 ghost use Rattle.venue.specs.Full.{full_form, limits, quantity_from};
 
 use crate::kind::Venue;
+use crate::room::check_room;
 use crate::terms::Limits;
 use fields::{Fault, Quantity};
 use readers::Field;
 
+// The bytes of a quantity.
 const WIDTH: usize = 16;
 
-// Where the lot size stands in the tail; the minimum quantity stands at 0.
+// Where the minimum quantity stands in the tail.
+const MIN: usize = 0;
+
+// Where the lot size stands in the tail.
 const LOT: usize = 16;
 
 // The quantity at `at` of a tail.
@@ -19,56 +24,39 @@ fn quantity_at(tail: &[u8], at: usize) -> Option<Quantity>
     requires { at ≤ 16 }
     ensures { result ≡ quantity_from at tail.now }
 {
-    if tail.len() < at + WIDTH {
-        return None;
-    }
-    <Quantity as Field>::read(&tail[at..at + WIDTH])
+    <Quantity as Field>::read(tail.get(at..at + WIDTH)?)
 }
 
 // The limits of these two quantities, or the offset of the first that is not in form.
 fn limits_of(min: Option<Quantity>, lot: Option<Quantity>) -> Result<Limits, usize>
     ensures { result ≡ limits min lot }
 {
-    let Some(min) = min else {
-        return Err(0);
-    };
-    let Some(lot) = lot else {
-        return Err(LOT);
-    };
+    let min = min.ok_or(MIN)?;
+    let lot = lot.ok_or(LOT)?;
     Ok(Limits { min, lot })
 }
 
-// Whether a buffer of `len` bytes has room for two quantities at `at`.
-fn has_room(len: usize, at: usize) -> bool
-    ensures { Decides result (at + 32 ≤ len) }
-{
-    at <= len && len - at >= 2 * WIDTH
-}
-
 // Writes two quantities, one behind the other, at `at`.
+#[tactic(auto, using(crate::proofs::Behind::behind, crate::specs::Full::text_long))]
 fn write_both(first: &Quantity, second: &Quantity, out: &mut [u8], at: usize) -> Result<(), Fault>
     ensures { Writes (quantity_text first.now.count ++ quantity_text second.now.count) out.old at result out.new }
 {
-    if !has_room(out.len(), at) {
-        return Err(Fault::NoRoom);
-    }
+    check_room(out, at, 2 * WIDTH)?;
     first.write(out, at)?;
     second.write(out, at + WIDTH)
 }
 
 // Orders with limits.
 #[derive(Clone, Copy)]
-pub struct FullEcn {}
+pub struct FullEcn;
 
 impl Venue for FullEcn {
     type Terms = Limits;
 
-    const TAIL: usize = 32;
-
     ghost form = { full_form };
 
     fn width() -> usize {
-        Self::TAIL
+        2 * WIDTH
     }
 
     fn priced() -> bool {
@@ -84,7 +72,7 @@ impl Venue for FullEcn {
     }
 
     fn read(tail: &[u8]) -> Result<Limits, usize> {
-        limits_of(quantity_at(tail, 0), quantity_at(tail, LOT))
+        limits_of(quantity_at(tail, MIN), quantity_at(tail, LOT))
     }
 
     fn write(terms: &Limits, out: &mut [u8], at: usize) -> Result<(), Fault> {

@@ -10,9 +10,6 @@ pub trait Venue {
     // What an order has beyond pair, side, id, price and amount.
     type Terms: Terms;
 
-    // The bytes of the tail.
-    const TAIL: usize;
-
     ghost form: { Form Self.Terms };
 
     // The bytes of the tail.

@@ -6,6 +6,7 @@ mod full;
 mod kind;
 pub mod laws;
 mod link;
+mod room;
 mod rows;
 mod terms;
 

@@ -8,17 +8,15 @@ use readers::Field;
 
 // Orders with their maker.
 #[derive(Clone, Copy)]
-pub struct LinkDirect {}
+pub struct LinkDirect;
 
 impl Venue for LinkDirect {
     type Terms = MadeBy;
 
-    const TAIL: usize = 16;
-
     ghost form = { link_form };
 
     fn width() -> usize {
-        Self::TAIL
+        16
     }
 
     fn priced() -> bool {
@@ -34,10 +32,9 @@ impl Venue for LinkDirect {
     }
 
     fn read(tail: &[u8]) -> Result<MadeBy, usize> {
-        match <Maker as Field>::read(tail) {
-            Some(maker) => Ok(MadeBy { maker }),
-            None => Err(0),
-        }
+        <Maker as Field>::read(tail)
+            .map(|maker| MadeBy { maker })
+            .ok_or(0)
     }
 
     fn write(terms: &MadeBy, out: &mut [u8], at: usize) -> Result<(), Fault> {

@@ -14,12 +14,10 @@ fn no_restriction() -> Quantity
 pub(crate) fn quantity_of(count: u64) -> Quantity
     ensures { result ≡ quantity_given count }
 {
-    match Quantity::from_count(count) {
-        Some(quantity) => quantity,
-        None => no_restriction(),
-    }
+    Quantity::from_count(count).unwrap_or_else(no_restriction)
 }
 
+#[tactic(auto, using(crate::specs::Rows::unknown_labelled, fields::proofs::Tests::labelled_decides))]
 fn unknown_maker() -> Maker
     ensures { result.bytes ≡ unknown }
 {
@@ -30,8 +28,5 @@ fn unknown_maker() -> Maker
 pub(crate) fn maker_of(bytes: &[u8]) -> Maker
     ensures { result ≡ maker_given bytes.now }
 {
-    match Maker::read(bytes) {
-        Ok(maker) => maker,
-        Err(_) => unknown_maker(),
-    }
+    Maker::read(bytes).unwrap_or_else(|_| unknown_maker())
 }

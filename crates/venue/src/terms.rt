@@ -10,7 +10,7 @@ use fields::{Maker, Quantity};
 
 // No terms: an order has nothing beyond its common fields.
 #[derive(Clone, Copy)]
-pub struct NoTerms {}
+pub struct NoTerms;
 
 impl Terms for NoTerms {
     type Row = NoTerms;
@@ -22,7 +22,7 @@ impl Terms for NoTerms {
     ghost back = { Prim.search rules };
 
     fn to_row(&self) -> NoTerms {
-        NoTerms {}
+        NoTerms
     }
 
     fn from_row(plain: NoTerms) -> NoTerms {

@@ -14,5 +14,7 @@ cut_off at bs h =
     let l = length-drop at bs in
     ap quantity_of (take_all 16 (drop at bs) (omega arith)) ∙ short (drop at bs) (omega arith)
 
-pub returns-then-tail-at : goal.returns-then-tail-at
-returns-then-tail-at c = sym (cut_off c.args.at c.args.tail.now c.if-tail-at.true)
+pub returns-in_err-get : goal.returns-in_err-get
+returns-in_err-get c =
+    let missing = c.in_err-get.ensures.lookup in
+    c.from_residual.ensures ∙ sym (cut_off c.args.at c.args.tail.now (omega (arith, missing)))
