@@ -1,6 +1,6 @@
 -- A check of each mark of a snapshot, in turn, gives its first repeat and its counts.
 use Rattle.std.proofs.Common.{◌≡◌, ℕ, zero, suc, ◌+◌, ◌<◌, ◌≤◌, Bool, true, false, cond, ◌&&◌, ◌||◌, List, [], ◌∷◌, ◌++◌, length, Some, None, Ok, Err, Option, sym, refl, ap, ◌∙◌, subst, ap₂, append_assoc, append-nil, arith, length-append}
-use Rattle.std.specs.List.{AllByRecursion}
+use Rattle.std.specs.List.{AllByRecursion, list_any}
 use Rattle.std.specs.Str.{bytes_eq}
 use Rattle.std.proofs.lemmas.Bool.{lt-ltb, le-ltb}
 use Rattle.fields.specs.declared.values.Pair.{Pair}
@@ -18,7 +18,7 @@ use Rattle.snapshot.specs.Scanning.{Scan, ◌▸◌, field_at}
 use Rattle.snapshot.specs.Snapshot.{side_at, pair_at, snapshot_of}
 use Rattle.snapshot.specs.Repeats.{place_of, alike, repeats, first_repeat}
 use Rattle.snapshot.specs.Listing.{pairs_listed, orders_put}
-use Rattle.snapshot.specs.Skims.{among, lists_pair, puts_id, met, listed, sides_at}
+use Rattle.snapshot.specs.Skims.{lists_pair, puts_id, met, listed, sides_at}
 use Rattle.snapshot.specs.Walked.{Runs, Walked, ends}
 use Rattle.snapshot.specs.Checked.{told, checked, onward, PairSeen, OrderSeen, MarkSeen}
 use Rattle.snapshot.proofs.Bounds.{Spanned, Each, each_ok, each_err, each_field, each_then, each_times, Parts, snapshot_parts, nowhere, Rising, rising_side, rising_join, rising_ascends, marks_rise, few_marks, Own, own_join, Under, own_under, under_join, Its, its_join, its_side}
@@ -30,12 +30,12 @@ same_pair_self a b e = same_bytes a.bytes b.bytes (ap (λ (x : Pair). x.bytes) e
 
 module _ {T : Type 0} where
   -- none of those behind passes
-  among_front : (t : Mark T → Bool) (xs ys : List (Mark T)) → among t ys ≡ false → among t (xs ++ ys) ≡ among t xs
+  among_front : (t : Mark T → Bool) (xs ys : List (Mark T)) → list_any t ys ≡ false → list_any t (xs ++ ys) ≡ list_any t xs
   among_front t [] ys h = h
   among_front t (x ∷ xs) ys h = ap (λ b. t x || b) (among_front t xs ys h)
 
   -- none from p on passes
-  among_behind : (t : Mark T → Bool) (p : ℕ) → ((x : Mark T) → p ≤ place_of x → t x ≡ false) → (q : ℕ) (xs : List (Mark T)) (e : ℕ) → p ≤ q → Rising q xs e → among t xs ≡ false
+  among_behind : (t : Mark T → Bool) (p : ℕ) → ((x : Mark T) → p ≤ place_of x → t x ≡ false) → (q : ℕ) (xs : List (Mark T)) (e : ℕ) → p ≤ q → Rising q xs e → list_any t xs ≡ false
   among_behind t p f q [] e h k = refl
   among_behind t p f q (x ∷ xs) e h k =
       let z = k.0 in
@@ -114,8 +114,8 @@ module _ {T : Type 0} where
   -- what is noted of the marks seen so far
   pub record Noted (front : List (Mark T)) (s : Seen) : Type 0 where
     pub first : s.first ≡ first_repeat [] front
-    pub pairs : s.pairs ≡ length (pairs_listed front)
-    pub orders : s.orders ≡ length (orders_put front)
+    pub pairs : s.counts.pairs ≡ length (pairs_listed front)
+    pub orders : s.counts.orders ≡ length (orders_put front)
 
   -- where no repeat was found, none of the marks in front of a block is like an order of it
   only_own : (before done : List (Mark T)) (q p : ℕ) (o : Order T) → Under None before → first_repeat [] (before ++ (Lists q o.pair ∷ done)) ≡ None
@@ -268,11 +268,11 @@ module _ {T : Type 0} (F : venue.Form T) (m : List ℕ) where
     all_noted s t w r = let x = snapshot_parts F m all e read in blocks_run x.count.value [] all s t refl (blocks_read all e x) tt w r
 
   -- a walk that ends without fault: what is noted then is the verdict
-  pub checked_so : (s t : Seen) (e : ℕ) → Noted {T = T} [] s → Walked (MarkSeen F m) (snapshot_of F m) s (Ok e) t → told t.first (record { pairs = t.pairs; orders = t.orders }) ≡ checked (snapshot_of F m)
+  pub checked_so : (s t : Seen) (e : ℕ) → Noted {T = T} [] s → Walked (MarkSeen F m) (snapshot_of F m) s (Ok e) t → told t.first t.counts ≡ checked (snapshot_of F m)
   unfolding checked
   checked_so s t e w h = by (snapshot_of F m) refl h.answer
     where
-      by : (x : Scan (List (Mark T))) → snapshot_of F m ≡ x → Ok e ≡ ends x → told t.first (record { pairs = t.pairs; orders = t.orders }) ≡ checked x
+      by : (x : Scan (List (Mark T))) → snapshot_of F m ≡ x → Ok e ≡ ends x → told t.first t.counts ≡ checked x
       by (Err y) k a = no a
       by (Ok v) k a =
           let n = all_noted v.0 v.1 k s t w (h.done v.0 v.1 k) in

@@ -1,5 +1,5 @@
 -- How walks join, and what the fields say of the scans.
-use Rattle.std.proofs.Common.{◌≡◌, ℕ, zero, suc, ◌+◌, ◌-◌, ◌<◌, ◌≤◌, Bool, true, false, cond, eqb, List, [], ◌∷◌, ◌++◌, length, Ok, Err, Option, Result, sym, refl, ap, ◌∙◌, subst, sub-one, arith}
+use Rattle.std.proofs.Common.{◌≡◌, ℕ, suc, ◌+◌, ◌-◌, ◌<◌, ◌≤◌, Bool, true, false, cond, eqb, List, [], ◌∷◌, ◌++◌, length, Ok, Err, Option, Result, sym, refl, ap, ◌∙◌, subst, arith}
 use Rattle.std.proofs.lemmas.Bool.{cond-true, cond-false}
 use Rattle.fields.specs.declared.values.Pair.{Pair}
 use Rattle.fields.specs.declared.values.Price.{Price}
@@ -63,20 +63,26 @@ module _ {S A : Type 0} (R : S → A → S → Type 0) where
   walked_stop (Ok v) f s t y u h = no (sym h.answer)
   walked_stop (Err w) f s t y u h = answered h.answer (walked_err w s u)
 
-  module _ (f : ℕ → Scan (List A)) where
-    pub times_none : (n at : ℕ) (s : S) → n ≡ 0 → Walked R (times f n at) s (Ok at) s
-    unfolding times
-    times_none n at s e = subst (λ k. Walked R (times f k at) s (Ok at) s) (sym e) (walked_ok [] at s s refl)
+  -- f over n turns, of which i are done: a walk over those left, from here, is a walk over all
+  module _ (f : ℕ → Scan (List A)) (n start : ℕ) (first : S) where
+    abbrev pub TurnsLeft : ℕ → ℕ → S → Type 0
+    TurnsLeft i at s = (r : Result ℕ MessageFault) (u : S) → Walked R (times f (n - i) at) s r u → Walked R (times f n start) first r u
 
-    pub times_next : (n at : ℕ) (s t u : S) (e : ℕ) (r : Result ℕ MessageFault) → 0 < n → Walked R (f at) s (Ok e) t → Walked R (times f (n - 1) e) t r u → Walked R (times f n at) s r u
-    unfolding times
-    times_next zero at s t u e r h a b = absurd (omega arith)
-    times_next (suc n) at s t u e r h a b = walked_then (f at) (times f n) s t u e r a (rw sub-one at b)
+    module _ (i at : ℕ) (s : S) (left : TurnsLeft i at s) where
+      pub turns_done : n ≤ i → Walked R (times f n start) first (Ok at) s
+      unfolding times
+      turns_done h = let z : n - i ≡ 0 = omega arith in left (Ok at) s (moved (ap (λ k. times f k at) z) (walked_ok [] at s s refl))
 
-    pub times_stop : (n at : ℕ) (s t : S) (y : MessageFault) (u : S) → 0 < n → Walked R (f at) s (Err y) t → Walked R (times f n at) s (Err y) u
-    unfolding times
-    times_stop zero at s t y u h a = absurd (omega arith)
-    times_stop (suc n) at s t y u h a = walked_stop (f at) (times f n) s t y u a
+      module _ (h : i < n) (t : S) where
+        one_more : times f (n - i) at ≡ (f at ⨟ times f (n - (i + 1)))
+        unfolding times
+        one_more = let z : n - i ≡ suc (n - (i + 1)) = omega arith in ap (λ k. times f k at) z
+
+        pub turns_next : (e : ℕ) → Walked R (f at) s (Ok e) t → TurnsLeft (i + 1) e t
+        turns_next e a r u b = left r u (moved one_more (walked_then (f at) (times f (n - (i + 1))) s t u e r a b))
+
+        pub turns_stop : (y : MessageFault) → Walked R (f at) s (Err y) t → Walked R (times f n start) first (Err y) t
+        turns_stop y a = left (Err y) t (moved one_more (walked_stop (f at) (times f (n - (i + 1))) s t y t a))
 
 -- the offset after a value
 module _ {A : Type 0} (m : List ℕ) (w : ℕ) (f : List ℕ → Option A) (p : ℕ) where

@@ -43,26 +43,39 @@ fn named<V: Venue>(m: &[u8], at: usize) -> Result<((usize, OrderId, V::Terms), u
     Ok(((at, id, terms), end))
 }
 
+// One side of a pair: what its prices share.
+#[derive(Clone, Copy)]
+struct BookSide {
+    pair: Pair,
+    side: Side,
+}
+
+// One price of a side: what its orders share.
+#[derive(Clone, Copy)]
+struct PriceLevel {
+    pair: Pair,
+    side: Side,
+    price: Price,
+}
+
 // The order at `at`: the offset after it.
 fn order<V: Venue, S, K: Task<V::Terms, S>>(
     m: &[u8],
     state: &mut S,
     at: usize,
-    pair: Pair,
-    side: Side,
-    price: Price,
+    level: &PriceLevel,
 ) -> Result<usize, MessageFault>
-    ensures { Walked (K.steps m.now) (order_at V.form m.now pair side price at) state.old result state.new }
+    ensures { Walked (K.steps m.now) (order_at V.form m.now level.now.pair level.now.side level.now.price at) state.old result state.new }
 {
     let (amount, name_at) = next::<Amount>(m, at)?;
     let ((id_at, id, terms), end) = named::<V>(m, name_at)?;
     let mark = Mark::Puts(
         id_at,
         Order {
-            pair,
-            side,
+            pair: level.pair,
+            side: level.side,
             id,
-            price,
+            price: level.price,
             amount,
             terms,
         },
@@ -76,16 +89,13 @@ fn orders<V: Venue, S, K: Task<V::Terms, S>>(
     m: &[u8],
     state: &mut S,
     mut at: usize,
-    mut n: u64,
-    pair: Pair,
-    side: Side,
-    price: Price,
+    n: u64,
+    level: &PriceLevel,
 ) -> Result<usize, MessageFault>
-    ensures { Walked (K.steps m.now) (times (order_at V.form m.now pair side price) n at) state.old result state.new }
+    ensures { Walked (K.steps m.now) (times (order_at V.form m.now level.now.pair level.now.side level.now.price) n at) state.old result state.new }
 {
-    while n > 0 {
-        at = order::<V, S, K>(m, state, at, pair, side, price)?;
-        n -= 1;
+    for _ in 0..n {
+        at = order::<V, S, K>(m, state, at, level)?;
     }
     Ok(at)
 }
@@ -95,10 +105,9 @@ fn level<V: Venue, S, K: Task<V::Terms, S>>(
     m: &[u8],
     state: &mut S,
     at: usize,
-    pair: Pair,
-    side: Side,
+    of: &BookSide,
 ) -> Result<usize, MessageFault>
-    ensures { Walked (K.steps m.now) (level_at V.form m.now pair side at) state.old result state.new }
+    ensures { Walked (K.steps m.now) (level_at V.form m.now of.now.pair of.now.side at) state.old result state.new }
 {
     let (price, count_at) = next::<Price>(m, at)?;
     let (count, orders_at) = next::<Integer<4>>(m, count_at)?;
@@ -106,7 +115,12 @@ fn level<V: Venue, S, K: Task<V::Terms, S>>(
     if n == 0 {
         return Err(MessageFault::Miscounted(count_at));
     }
-    orders::<V, S, K>(m, state, orders_at, n, pair, side, price)
+    let level = PriceLevel {
+        pair: of.pair,
+        side: of.side,
+        price,
+    };
+    orders::<V, S, K>(m, state, orders_at, n, &level)
 }
 
 // `n` prices from `at`.
@@ -114,15 +128,13 @@ fn levels<V: Venue, S, K: Task<V::Terms, S>>(
     m: &[u8],
     state: &mut S,
     mut at: usize,
-    mut n: u64,
-    pair: Pair,
-    side: Side,
+    n: u64,
+    of: &BookSide,
 ) -> Result<usize, MessageFault>
-    ensures { Walked (K.steps m.now) (times (level_at V.form m.now pair side) n at) state.old result state.new }
+    ensures { Walked (K.steps m.now) (times (level_at V.form m.now of.now.pair of.now.side) n at) state.old result state.new }
 {
-    while n > 0 {
-        at = level::<V, S, K>(m, state, at, pair, side)?;
-        n -= 1;
+    for _ in 0..n {
+        at = level::<V, S, K>(m, state, at, of)?;
     }
     Ok(at)
 }
@@ -132,13 +144,12 @@ fn side_of<V: Venue, S, K: Task<V::Terms, S>>(
     m: &[u8],
     state: &mut S,
     at: usize,
-    pair: Pair,
-    side: Side,
+    of: &BookSide,
 ) -> Result<usize, MessageFault>
-    ensures { Walked (K.steps m.now) (side_at V.form m.now pair side at) state.old result state.new }
+    ensures { Walked (K.steps m.now) (side_at V.form m.now of.now.pair of.now.side at) state.old result state.new }
 {
     let (count, levels_at) = next::<Integer<4>>(m, at)?;
-    levels::<V, S, K>(m, state, levels_at, count.value(), pair, side)
+    levels::<V, S, K>(m, state, levels_at, count.value(), of)
 }
 
 // The pair at `at`, its bids and its offers.
@@ -152,8 +163,16 @@ fn pair_of<V: Venue, S, K: Task<V::Terms, S>>(
     let (pair, bids_at) = next::<Pair>(m, at)?;
     let mark = Mark::Lists(at, pair);
     K::visit(m, state, &mark);
-    let offers_at = side_of::<V, S, K>(m, state, bids_at, pair, Side::Bid)?;
-    side_of::<V, S, K>(m, state, offers_at, pair, Side::Offer)
+    let bids = BookSide {
+        pair,
+        side: Side::Bid,
+    };
+    let offers = BookSide {
+        pair,
+        side: Side::Offer,
+    };
+    let offers_at = side_of::<V, S, K>(m, state, bids_at, &bids)?;
+    side_of::<V, S, K>(m, state, offers_at, &offers)
 }
 
 // `n` pairs from `at`.
@@ -161,13 +180,12 @@ fn pairs<V: Venue, S, K: Task<V::Terms, S>>(
     m: &[u8],
     state: &mut S,
     mut at: usize,
-    mut n: u64,
+    n: u64,
 ) -> Result<usize, MessageFault>
     ensures { Walked (K.steps m.now) (times (pair_at V.form m.now) n at) state.old result state.new }
 {
-    while n > 0 {
+    for _ in 0..n {
         at = pair_of::<V, S, K>(m, state, at)?;
-        n -= 1;
     }
     Ok(at)
 }

@@ -1,20 +1,19 @@
-use Rattle.std.proofs.Common.{true, false, arith}
-use Rattle.snapshot.proofs.Skims.{compared, pairs_done, pairs_past, pairs_met_lem, pairs_next}
+use Rattle.std.proofs.Common.{arith}
+use Rattle.snapshot.proofs.Skims.{compared, pairs_done, pairs_past, pairs_here, pairs_next}
 use Rattle.snapshot.proofs.skim.pairs_met.Goals as goal
+
+pub returns-then-at-upto : goal.returns-then-at-upto
+returns-then-at-upto g c = pairs_past g.V.Venue.form c.args.m.now c.args.upto c.args.pair.now c.args.n c.args.at c.loop.counter c.loop.at c.if-at-upto.true c.loop.invariant
 
 pub returns-then-same_at : goal.returns-then-same_at
 returns-then-same_at g c =
-    c.loop-n.invariant true (pairs_met_lem g.V.Venue.form c.args.m.now c.args.upto c.args.pair.now c.loop-n.n c.loop-n.at c.same_at.result (omega arith) (omega arith)
-    (compared c.args.m.now c.args.pair.now 7 c.loop-n.at c.same_at.result (omega arith) c.told-pair c.same_at.ensures) c.if-same_at.true)
+    pairs_here g.V.Venue.form c.args.m.now c.args.upto c.args.pair.now c.args.n c.args.at c.loop.counter c.loop.at c.loop-test.true (omega arith) c.same_at.result
+    (compared c.args.m.now c.args.pair.now 7 c.loop.at c.same_at.result (omega arith) c.told-pair c.same_at.ensures) c.if-same_at.true c.loop.invariant
 
-pub loop-n-preserved : goal.loop-n-preserved
-loop-n-preserved g c r h =
-    c.loop-n.invariant r (pairs_next g.V.Venue.form c.args.m.now c.args.upto c.args.pair.now c.loop-n.n c.loop-n.at c.same_at.result (omega arith) (omega arith)
-    (compared c.args.m.now c.args.pair.now 7 c.loop-n.at c.same_at.result (omega arith) c.told-pair c.same_at.ensures)
-    c.pair_end-at.result r c.if-same_at.false c.pair_end-at.ensures h)
+pub loop-preserved : goal.loop-preserved
+loop-preserved g c =
+    pairs_next g.V.Venue.form c.args.m.now c.args.upto c.args.pair.now c.args.n c.args.at c.loop.counter c.loop.at c.loop-test.true (omega arith) c.same_at.result
+    (compared c.args.m.now c.args.pair.now 7 c.loop.at c.same_at.result (omega arith) c.told-pair c.same_at.ensures) c.pair_end-at.result c.if-same_at.false c.pair_end-at.ensures c.loop.invariant
 
-pub returns-else-at-upto : goal.returns-else-at-upto
-returns-else-at-upto g c = c.loop-n.invariant false (pairs_past g.V.Venue.form c.args.m.now c.args.upto c.args.pair.now c.loop-n.n c.loop-n.at c.if-at-upto.false)
-
-pub returns-after-loop-n : goal.returns-after-loop-n
-returns-after-loop-n g c = c.loop-n.invariant false (pairs_done g.V.Venue.form c.args.m.now c.args.upto c.args.pair.now c.loop-n.n c.loop-n.at (omega arith))
+pub returns : goal.returns
+returns g c = pairs_done g.V.Venue.form c.args.m.now c.args.upto c.args.pair.now c.args.n c.args.at c.loop.counter c.loop.at c.loop-test.false c.loop.invariant
