@@ -14,6 +14,7 @@ use readers::Field;
 use venue::Venue;
 
 // The value at `at`, and the offset after it.
+#[tactic(auto, unfolding(crate::specs::Scanning::field_at), using(message::proofs::Readings::value_read))]
 fn next<F: Field>(m: &[u8], at: usize) -> Result<(F, usize), MessageFault>
     ensures { result ≡ field_at m.now F.wide F.reads at }
 {
@@ -22,6 +23,7 @@ fn next<F: Field>(m: &[u8], at: usize) -> Result<(F, usize), MessageFault>
 }
 
 // The terms at `at`, and the offset after them.
+#[tactic(auto, unfolding(crate::specs::Scanning::tail_then), using(message::proofs::Readings::tail_read))]
 fn next_tail<V: Venue>(m: &[u8], at: usize) -> Result<(V::Terms, usize), MessageFault>
     ensures { result ≡ tail_then V.form m.now at }
 {
@@ -30,6 +32,7 @@ fn next_tail<V: Venue>(m: &[u8], at: usize) -> Result<(V::Terms, usize), Message
 }
 
 // The id and the terms at `at`, in the venue's order, with the offset of the id; and the offset after them.
+#[tactic(auto, unfolding(crate::specs::Named::named_at))]
 fn named<V: Venue>(m: &[u8], at: usize) -> Result<((usize, OrderId, V::Terms), usize), MessageFault>
     ensures { result ≡ named_at V.form m.now at }
 {
