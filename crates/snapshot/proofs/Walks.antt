@@ -33,6 +33,9 @@ module _ {S A : Type 0} (R : S → A → S → Type 0) where
   pub walked_ok : (xs : List A) (e : ℕ) (s u : S) → Runs R s xs u → Walked R (Ok (xs, e)) s (Ok e) u
   walked_ok xs e s u h = record { answer = refl; done = λ ms q k. let same : ◌≡◌ {A = List A × ℕ} (xs, e) (ms, q) = cc in subst (λ z. Runs R s z u) (ap (λ t. t.0) same) h }
 
+  pub walked_one : (x : A) (e : ℕ) (s u : S) → R s x u → Walked R (Ok (x ∷ [], e)) s (Ok e) u
+  walked_one x e s u h = walked_ok (x ∷ []) e s u (u, h, refl)
+
   pub walked_err : (y : MessageFault) (s u : S) → Walked R (Err y) s (Err y) u
   walked_err y s u = record { answer = refl; done = λ ms q k. no (sym k) }
 
@@ -63,15 +66,18 @@ module _ {S A : Type 0} (R : S → A → S → Type 0) where
   walked_stop (Ok v) f s t y u h = no (sym h.answer)
   walked_stop (Err w) f s t y u h = answered h.answer (walked_err w s u)
 
-  -- f over n turns, of which i are done: a walk over those left, from here, is a walk over all
   module _ (f : ℕ → Scan (List A)) (n start : ℕ) (first : S) where
-    abbrev pub TurnsLeft : ℕ → ℕ → S → Type 0
-    TurnsLeft i at s = (r : Result ℕ MessageFault) (u : S) → Walked R (times f (n - i) at) s r u → Walked R (times f n start) first r u
+    -- of n turns of f, i are done: a walk over those left, from here, is a walk over all
+    pub record TurnsLeft (i at : ℕ) (s : S) : Type 0 where
+      pub over : (r : Result ℕ MessageFault) (u : S) → Walked R (times f (n - i) at) s r u → Walked R (times f n start) first r u
+
+    pub turns_all : TurnsLeft 0 start first
+    turns_all = record { over = λ r u w. let z : n - 0 ≡ n = omega arith in subst (λ k. Walked R (times f k start) first r u) z w }
 
     module _ (i at : ℕ) (s : S) (left : TurnsLeft i at s) where
       pub turns_done : n ≤ i → Walked R (times f n start) first (Ok at) s
       unfolding times
-      turns_done h = let z : n - i ≡ 0 = omega arith in left (Ok at) s (moved (ap (λ k. times f k at) z) (walked_ok [] at s s refl))
+      turns_done h = let z : n - i ≡ 0 = omega arith in left.over (Ok at) s (moved (ap (λ k. times f k at) z) (walked_ok [] at s s refl))
 
       module _ (h : i < n) (t : S) where
         one_more : times f (n - i) at ≡ (f at ⨟ times f (n - (i + 1)))
@@ -79,10 +85,10 @@ module _ {S A : Type 0} (R : S → A → S → Type 0) where
         one_more = let z : n - i ≡ suc (n - (i + 1)) = omega arith in ap (λ k. times f k at) z
 
         pub turns_next : (e : ℕ) → Walked R (f at) s (Ok e) t → TurnsLeft (i + 1) e t
-        turns_next e a r u b = left r u (moved one_more (walked_then (f at) (times f (n - (i + 1))) s t u e r a b))
+        turns_next e a = record { over = λ r u b. left.over r u (moved one_more (walked_then (f at) (times f (n - (i + 1))) s t u e r a b)) }
 
-        pub turns_stop : (y : MessageFault) → Walked R (f at) s (Err y) t → Walked R (times f n start) first (Err y) t
-        turns_stop y a = left (Err y) t (moved one_more (walked_stop (f at) (times f (n - (i + 1))) s t y t a))
+        pub turns_stop : (y : MessageFault) (r : Result ℕ MessageFault) → Walked R (f at) s (Err y) t → r ≡ Err y → Walked R (times f n start) first r t
+        turns_stop y r a k = answered k (left.over (Err y) t (moved one_more (walked_stop (f at) (times f (n - (i + 1))) s t y t a)))
 
 -- the offset after a value
 module _ {A : Type 0} (m : List ℕ) (w : ℕ) (f : List ℕ → Option A) (p : ℕ) where

@@ -62,6 +62,7 @@ struct PriceLevel {
 }
 
 // The order at `at`: the offset after it.
+#[tactic(auto, using(crate::proofs::Walks::walked_one, crate::proofs::Walks::walked_err, crate::proofs::Walks::order_read, crate::proofs::Walks::order_unsized, crate::proofs::Walks::order_unnamed))]
 fn order<V: Venue, S, K: Task<V::Terms, S>>(
     m: &[u8],
     state: &mut S,
@@ -88,6 +89,7 @@ fn order<V: Venue, S, K: Task<V::Terms, S>>(
 }
 
 // `n` orders from `at`.
+#[tactic(auto, using(crate::proofs::Walks::turns_all, crate::proofs::Walks::turns_next, crate::proofs::Walks::turns_stop, crate::proofs::Walks::turns_done))]
 fn orders<V: Venue, S, K: Task<V::Terms, S>>(
     m: &[u8],
     state: &mut S,
@@ -104,6 +106,7 @@ fn orders<V: Venue, S, K: Task<V::Terms, S>>(
 }
 
 // The price at `at`, the number of its orders, and the orders.
+#[tactic(auto, unfolding(crate::specs::Snapshot::level_at), using(crate::proofs::Walks::walked_err))]
 fn level<V: Venue, S, K: Task<V::Terms, S>>(
     m: &[u8],
     state: &mut S,
@@ -127,6 +130,7 @@ fn level<V: Venue, S, K: Task<V::Terms, S>>(
 }
 
 // `n` prices from `at`.
+#[tactic(auto, using(crate::proofs::Walks::turns_all, crate::proofs::Walks::turns_next, crate::proofs::Walks::turns_stop, crate::proofs::Walks::turns_done))]
 fn levels<V: Venue, S, K: Task<V::Terms, S>>(
     m: &[u8],
     state: &mut S,
@@ -143,6 +147,7 @@ fn levels<V: Venue, S, K: Task<V::Terms, S>>(
 }
 
 // The number of prices at `at`, and the prices.
+#[tactic(auto, unfolding(crate::specs::Snapshot::side_at), using(crate::proofs::Walks::walked_err))]
 fn side_of<V: Venue, S, K: Task<V::Terms, S>>(
     m: &[u8],
     state: &mut S,
@@ -156,6 +161,7 @@ fn side_of<V: Venue, S, K: Task<V::Terms, S>>(
 }
 
 // The pair at `at`, its bids and its offers.
+#[tactic(auto, unfolding(crate::specs::Snapshot::pair_at), using(crate::proofs::Walks::walked_err, crate::proofs::Walks::walked_ok, crate::proofs::Walks::walked_then, crate::proofs::Walks::walked_stop))]
 fn pair_of<V: Venue, S, K: Task<V::Terms, S>>(
     m: &[u8],
     state: &mut S,
@@ -179,6 +185,7 @@ fn pair_of<V: Venue, S, K: Task<V::Terms, S>>(
 }
 
 // `n` pairs from `at`.
+#[tactic(auto, using(crate::proofs::Walks::turns_all, crate::proofs::Walks::turns_next, crate::proofs::Walks::turns_stop, crate::proofs::Walks::turns_done))]
 fn pairs<V: Venue, S, K: Task<V::Terms, S>>(
     m: &[u8],
     state: &mut S,
@@ -194,6 +201,7 @@ fn pairs<V: Venue, S, K: Task<V::Terms, S>>(
 }
 
 // The number of pairs at `at`, and the pairs.
+#[tactic(auto, unfolding(crate::specs::Snapshot::pairs_from), using(crate::proofs::Walks::walked_err))]
 fn all_pairs<V: Venue, S, K: Task<V::Terms, S>>(
     m: &[u8],
     state: &mut S,
@@ -206,6 +214,7 @@ fn all_pairs<V: Venue, S, K: Task<V::Terms, S>>(
 }
 
 // The snapshot: the task at each mark, up to the message's end or the first fault.
+#[tactic(auto, unfolding(crate::specs::Snapshot::snapshot_of), using(crate::proofs::Walks::walked_err))]
 pub fn visit_marks<V: Venue, S, K: Task<V::Terms, S>>(
     m: &[u8],
     state: &mut S,

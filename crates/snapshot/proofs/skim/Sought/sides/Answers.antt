@@ -2,7 +2,7 @@ use Rattle.std.proofs.Common.{sym, subst}
 use Rattle.book.specs.declared.order.Side.TheVariants.{Bid, Offer}
 use Rattle.snapshot.specs.Snapshot.{side_at}
 use Rattle.snapshot.specs.Skims.{Skims, sides_at}
-use Rattle.snapshot.proofs.Skims.{side_unmet, skims_on, skims_off}
+use Rattle.snapshot.proofs.Skims.{side_unmet, skims_off}
 use Rattle.snapshot.proofs.skim.Sought.sides.Goals as goal
 
 pub returns-in_err-offers : goal.returns-in_err-offers
