@@ -2,7 +2,7 @@
 use Rattle.std.proofs.Common.{◌≡◌, ℕ, zero, suc, ◌+◌, ◌<◌, ◌≤◌, Bool, true, false, cond, ◌&&◌, ◌||◌, List, [], ◌∷◌, ◌++◌, length, Some, None, Ok, Err, Option, sym, refl, ap, ◌∙◌, subst, ap₂, append_assoc, append-nil, arith, length-append}
 use Rattle.std.specs.List.{AllByRecursion, list_any}
 use Rattle.std.specs.Str.{bytes_eq}
-use Rattle.std.proofs.lemmas.Bool.{lt-ltb, le-ltb}
+use Rattle.std.proofs.lemmas.Bool.{lt-ltb, le-ltb, or_parts}
 use Rattle.fields.specs.declared.values.Pair.{Pair}
 use Rattle.book.specs.Ladder.{same_pair}
 use Rattle.book.specs.declared.order.Order.{Order}
@@ -21,8 +21,8 @@ use Rattle.snapshot.specs.Listing.{pairs_listed, orders_put}
 use Rattle.snapshot.specs.Skims.{lists_pair, puts_id, met, listed, sides_at}
 use Rattle.snapshot.specs.Walked.{Runs, Walked, ends}
 use Rattle.snapshot.specs.Checked.{told, checked, onward, PairSeen, OrderSeen, MarkSeen}
-use Rattle.snapshot.proofs.Bounds.{Spanned, Each, each_ok, each_err, each_field, each_then, each_times, Parts, snapshot_parts, nowhere, Rising, rising_side, rising_join, rising_ascends, marks_rise, few_marks, Own, own_join, Under, own_under, under_join, Its, its_join, its_side}
-use Rattle.snapshot.proofs.Repeating.{or_left, or_right, none_distinct}
+use Rattle.snapshot.proofs.Bounds.{Spanned, Each, each_ok, each_err, each_field, each_then, each_times, Parts, snapshot_parts, nowhere, Rising, rising_side, rising_join, rising_below, marks_rise, few_marks, Own, own_join, Under, own_under, under_join, Its, its_join, its_side}
+use Rattle.snapshot.proofs.Repeating.{none_distinct}
 use Rattle.snapshot.proofs.Walks.{no, FieldScanned, field_inside}
 
 same_pair_self : (a b : Pair) → a ≡ b → same_pair a b ≡ true
@@ -53,9 +53,6 @@ module _ {T : Type 0} where
   rising_behind r [] back x e h = (omega arith, h.1)
   rising_behind r (y ∷ front) back x e h = rising_behind (suc (place_of y)) front back x e h.1
 
-  rising_below : (r : ℕ) (front back : List (Mark T)) (x : Mark T) (e : ℕ) → Rising r (front ++ (x ∷ back)) e → AllByRecursion (λ (y : Mark T). place_of y < place_of x) front
-  rising_below r front back x e h = (rising_ascends r (front ++ (x ∷ back)) e h).below front back x refl
-
   -- a pair that is listed before p repeats one in front of p
   listed_front : (p : ℕ) (c : Pair) (xs : List (Mark T)) → AllByRecursion (λ (y : Mark T). place_of y < p) xs → listed p c.bytes xs ≡ repeats xs (Lists p c)
   unfolding alike
@@ -77,14 +74,14 @@ module _ {T : Type 0} where
   unfolding alike
   unlisted_unput q p o d [] u f h = refl
   unlisted_unput q p o d (Lists r c ∷ xs) u f h =
-      let other = or_left (same_pair c o.pair) (repeats xs (Lists q o.pair)) h in
-      unlisted_unput q p o (Some c) xs u (λ b e. let z : c ≡ b = cc in ap (λ x. same_pair x o.pair) (sym z) ∙ other) (or_right (same_pair c o.pair) (repeats xs (Lists q o.pair)) h)
+      let other = (or_parts (same_pair c o.pair) (repeats xs (Lists q o.pair)) h).0 in
+      unlisted_unput q p o (Some c) xs u (λ b e. let z : c ≡ b = cc in ap (λ x. same_pair x o.pair) (sym z) ∙ other) (or_parts (same_pair c o.pair) (repeats xs (Lists q o.pair)) h).1
   unlisted_unput q p o d (Puts r x ∷ xs) u f h =
       ap₂ ◌||◌ (ap (λ b. b && bytes_eq x.id.bytes o.id.bytes) (f x.pair u.0)) (unlisted_unput q p o d xs u.1 f h)
 
   repeats_behind : (xs ys : List (Mark T)) (x : Mark T) → repeats xs x ≡ false → repeats (xs ++ ys) x ≡ repeats ys x
   repeats_behind [] ys x h = refl
-  repeats_behind (y ∷ xs) ys x h = ap₂ ◌||◌ (or_left (alike y x) (repeats xs x) h) (repeats_behind xs ys x (or_right (alike y x) (repeats xs x) h))
+  repeats_behind (y ∷ xs) ys x h = ap₂ ◌||◌ (or_parts (alike y x) (repeats xs x) h).0 (repeats_behind xs ys x (or_parts (alike y x) (repeats xs x) h).1)
 
   -- the first repeat, with one more mark
   first_more : (seen xs : List (Mark T)) (x : Mark T) → first_repeat seen (xs ++ (x ∷ [])) ≡ onward (first_repeat seen xs) (place_of x) (repeats (seen ++ xs) x)
@@ -189,7 +186,7 @@ module _ {T : Type 0} (F : venue.Form T) (m : List ℕ) where
       let rise = sides_rise o.pair (q + 7) (done ++ (Puts p o ∷ todo)) k sides in
       let behind : met p o.id.bytes (Puts p o ∷ todo) ≡ false = among_behind (puts_id p o.id.bytes) p (id_behind p o.id.bytes) p (Puts p o ∷ todo) k (omega arith) (rising_behind (q + 7) done todo (Puts p o) k rise) in
       let decided : met p o.id.bytes (done ++ (Puts p o ∷ todo)) ≡ repeats done (Puts p o) =
-      among_front (puts_id p o.id.bytes) done (Puts p o ∷ todo) behind ∙ met_front p o done own (rising_below (q + 7) done todo (Puts p o) k rise) in
+      among_front (puts_id p o.id.bytes) done (Puts p o ∷ todo) behind ∙ met_front p o done own (rising_below (q + 7) k done todo (Puts p o) rise) in
       let sum = marks_sum front in
       let i = n.orders in
       record {
@@ -230,7 +227,7 @@ module _ {T : Type 0} (F : venue.Form T) (m : List ℕ) where
         let rise : Rising 11 (front ++ (Lists p c ∷ back)) (length m) = subst (λ xs. Rising 11 xs (length m)) z (marks_rise F m all e read) in
         let behind : listed p c.bytes (Lists p c ∷ back) ≡ false = among_behind (lists_pair p c.bytes) p (pair_behind p c.bytes) p (Lists p c ∷ back) (length m) (omega arith) (rising_behind 11 front back (Lists p c) (length m) rise) in
         let decided : listed p c.bytes all ≡ repeats front (Lists p c) = ap (listed p c.bytes) z
-        ∙ among_front (lists_pair p c.bytes) front (Lists p c ∷ back) behind ∙ listed_front p c front (rising_below 11 front back (Lists p c) (length m) rise) in
+        ∙ among_front (lists_pair p c.bytes) front (Lists p c ∷ back) behind ∙ listed_front p c front (rising_below 11 (length m) front back (Lists p c) rise) in
         let few = few_marks F m all e read in
         let sum = marks_sum front in
         let i = n.pairs in

@@ -3,8 +3,7 @@ use Rattle.std.proofs.Common.{Bor, None, take, drop, take_all, ◌≡◌, ℕ, z
 use Rattle.std.specs.declared.ops.ControlFlow.{ControlFlow}
 use Rattle.std.specs.declared.ops.ControlFlow.TheVariants.{Continue, Break}
 use Rattle.std.specs.Cmp.Lexicographic.{pointwise}
-use Rattle.std.specs.ControlFlow.{break_value}
-use Rattle.std.specs.Option.{MatchOption, unwrap_or}
+use Rattle.std.specs.Option.{MatchOption}
 use Rattle.std.specs.Slice.{IsGetRangeResult}
 use Rattle.std.specs.List.{list_any}
 use Rattle.std.specs.Str.{bytes_eq}
@@ -32,7 +31,7 @@ use Rattle.snapshot.specs.declared.mark.Mark.{Mark}
 use Rattle.snapshot.specs.declared.mark.Mark.TheVariants.{Lists, Puts}
 use Rattle.snapshot.specs.Scanning.{Scan, ◌▸◌, ◌⨟◌, field_at, tail_then, times}
 use Rattle.snapshot.specs.Snapshot.{whole_order, order_at, level_at, side_at, pair_at, pairs_from, snapshot_of}
-use Rattle.snapshot.specs.Skims.{puts_id, lists_pair, met, listed, Says, Skims, Ends, PutsId, ListsPair, id_offset, order_width, count_or0, count_in, strided, sides_at}
+use Rattle.snapshot.specs.Skims.{puts_id, lists_pair, met, listed, Says, Skims, Ends, ListsPair, id_offset, order_width, count_or0, count_in, strided, sides_at}
 
 -- bytes that are looked for at an offset, and are there
 pub compared : (m bs : List ℕ) (w at : ℕ) (r : Bool) → 0 < w → length bs ≡ w → Decides r ((at + length bs ≤ length m) × (field at (length bs) m ≡ bs)) → r ≡ bytes_eq (field at w m) bs
@@ -416,12 +415,6 @@ module _ {T : Type 0} (F : venue.Form T) (m : List ℕ) (c : Pair) (s : Side) wh
 
     pub side_ends : (r : ℕ) → Ends (times (level_at F m c s) k q) r → Ends (side_at F m c s p) r
     side_ends r h = record { end = λ ms e j. h.end ms e (side_times ms e j) }
-
--- what breaks off at true was met
-pub put_told : {T : Type 0} (upto : ℕ) (id : List ℕ) (x : Scan (List (Mark T))) (a : ControlFlow Bool ℕ) (r : Bool) → Skims upto id x a → r ≡ unwrap_or (break_value a) false → PutsId upto id x r
-put_told upto id x (Break true) r h is = record { found = λ ms e z. is ∙ sym (h.says ms e z) }
-put_told upto id x (Break false) r h is = record { found = λ ms e z. is ∙ sym (h.says ms e z).0 }
-put_told upto id x (Continue q) r h is = record { found = λ ms e z. is ∙ sym (h.says ms e z).0 }
 
 -- Where blocks end, of which i of n are passed.
 module _ {A : Type 0} (f : ℕ → Scan (List (Mark A))) (n start : ℕ) where
