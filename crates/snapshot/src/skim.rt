@@ -103,10 +103,12 @@ fn pair_end<V: Venue>(m: &[u8], at: usize) -> usize
     side_end::<V>(m, offers)
 }
 
-// Whether one of `n` pairs from `at` stands before `upto` and is this one.
-fn pairs_met<V: Venue>(m: &[u8], mut at: usize, n: usize, upto: usize, pair: &[u8; 7]) -> bool
-    ensures { ListsPair upto pair.now (times (pair_at V.form m.now) n at) result }
+// Whether the snapshot lists the pair before `upto`.
+pub(crate) fn pair_met<V: Venue>(m: &[u8], upto: usize, pair: &[u8; 7]) -> bool
+    ensures { ListsPair upto pair.now (snapshot_of V.form m.now) result }
 {
+    let n = count_at(m, 7);
+    let mut at = 11;
     for _ in 0..n {
         if at >= upto {
             return false;
@@ -117,13 +119,6 @@ fn pairs_met<V: Venue>(m: &[u8], mut at: usize, n: usize, upto: usize, pair: &[u
         at = pair_end::<V>(m, at);
     }
     false
-}
-
-// Whether the snapshot lists the pair before `upto`.
-pub(crate) fn pair_met<V: Venue>(m: &[u8], upto: usize, pair: &[u8; 7]) -> bool
-    ensures { ListsPair upto pair.now (snapshot_of V.form m.now) result }
-{
-    pairs_met::<V>(m, 11, count_at(m, 7), upto, pair)
 }
 
 impl Sought<'_> {

@@ -13,7 +13,7 @@ use message::MessageFault;
 use readers::Field;
 use venue::Venue;
 
-// The value at `at`, and the offset after it.
+// The value at `at`, and the offset after it. An offset and no slice is answered: results are compared as values, which slices are not.
 #[tactic(auto, unfolding(crate::specs::Scanning::field_at), using(message::proofs::Readings::value_read))]
 fn next<F: Field>(m: &[u8], at: usize) -> Result<(F, usize), MessageFault>
     ensures { result ≡ field_at m.now F.wide F.reads at }
