@@ -1,8 +1,8 @@
 -- A check of each mark of a snapshot, in turn, gives its first repeat and its counts.
 use Rattle.std.proofs.Common.{◌≡◌, ℕ, zero, suc, ◌+◌, ◌<◌, ◌≤◌, Bool, true, false, cond, ◌&&◌, ◌||◌, List, [], ◌∷◌, ◌++◌, length, Some, None, Ok, Err, Option, sym, refl, ap, ◌∙◌, subst, ap₂, append_assoc, append-nil, arith, length-append}
-use Rattle.std.specs.List.{AllByRecursion}
+use Rattle.std.specs.List.{AllByRecursion, list_any}
 use Rattle.std.specs.Str.{bytes_eq}
-use Rattle.std.proofs.lemmas.Bool.{lt-ltb, le-ltb}
+use Rattle.std.proofs.lemmas.Bool.{lt-ltb, le-ltb, or_parts}
 use Rattle.fields.specs.Values.{Pair}
 use Rattle.book.specs.Ladder.{same_pair}
 use Rattle.book.specs.declared.order.Order.{Order}
@@ -18,11 +18,11 @@ use Rattle.snapshot.specs.Scanning.{Scan, ◌▸◌, field_at}
 use Rattle.snapshot.specs.Snapshot.{side_at, pair_at, snapshot_of}
 use Rattle.snapshot.specs.Repeats.{place_of, alike, repeats, first_repeat}
 use Rattle.snapshot.specs.Listing.{pairs_listed, orders_put}
-use Rattle.snapshot.specs.Skims.{among, lists_pair, puts_id, met, listed, sides_at}
+use Rattle.snapshot.specs.Skims.{lists_pair, puts_id, met, listed, sides_at}
 use Rattle.snapshot.specs.Walked.{Runs, Walked, ends}
 use Rattle.snapshot.specs.Checked.{told, checked, onward, PairSeen, OrderSeen, MarkSeen}
-use Rattle.snapshot.proofs.Bounds.{Spanned, Each, each_ok, each_err, each_field, each_then, each_times, Parts, snapshot_parts, nowhere, Rising, rising_side, rising_join, rising_ascends, marks_rise, few_marks, Own, own_join, Under, own_under, under_join, Its, its_join, its_side}
-use Rattle.snapshot.proofs.Repeating.{or_left, or_right, none_distinct}
+use Rattle.snapshot.proofs.Bounds.{Spanned, Each, each_ok, each_err, each_field, each_then, each_times, Parts, snapshot_parts, nowhere, Rising, rising_side, rising_join, rising_below, marks_rise, few_marks, Own, own_join, Under, own_under, under_join, Its, its_join, its_side}
+use Rattle.snapshot.proofs.Repeating.{none_distinct}
 use Rattle.snapshot.proofs.Walks.{no, FieldScanned, field_inside}
 
 same_pair_self : (a b : Pair) → a ≡ b → same_pair a b ≡ true
@@ -30,12 +30,12 @@ same_pair_self a b e = same_bytes a.bytes b.bytes (ap (λ (x : Pair). x.bytes) e
 
 module _ {T : Type 0} where
   -- none of those behind passes
-  among_front : (t : Mark T → Bool) (xs ys : List (Mark T)) → among t ys ≡ false → among t (xs ++ ys) ≡ among t xs
+  among_front : (t : Mark T → Bool) (xs ys : List (Mark T)) → list_any t ys ≡ false → list_any t (xs ++ ys) ≡ list_any t xs
   among_front t [] ys h = h
   among_front t (x ∷ xs) ys h = ap (λ b. t x || b) (among_front t xs ys h)
 
   -- none from p on passes
-  among_behind : (t : Mark T → Bool) (p : ℕ) → ((x : Mark T) → p ≤ place_of x → t x ≡ false) → (q : ℕ) (xs : List (Mark T)) (e : ℕ) → p ≤ q → Rising q xs e → among t xs ≡ false
+  among_behind : (t : Mark T → Bool) (p : ℕ) → ((x : Mark T) → p ≤ place_of x → t x ≡ false) → (q : ℕ) (xs : List (Mark T)) (e : ℕ) → p ≤ q → Rising q xs e → list_any t xs ≡ false
   among_behind t p f q [] e h k = refl
   among_behind t p f q (x ∷ xs) e h k =
       let z = k.0 in
@@ -52,9 +52,6 @@ module _ {T : Type 0} where
   rising_behind : (r : ℕ) (front back : List (Mark T)) (x : Mark T) (e : ℕ) → Rising r (front ++ (x ∷ back)) e → Rising (place_of x) (x ∷ back) e
   rising_behind r [] back x e h = (omega arith, h.1)
   rising_behind r (y ∷ front) back x e h = rising_behind (suc (place_of y)) front back x e h.1
-
-  rising_below : (r : ℕ) (front back : List (Mark T)) (x : Mark T) (e : ℕ) → Rising r (front ++ (x ∷ back)) e → AllByRecursion (λ (y : Mark T). place_of y < place_of x) front
-  rising_below r front back x e h = (rising_ascends r (front ++ (x ∷ back)) e h).below front back x refl
 
   -- a pair that is listed before p repeats one in front of p
   listed_front : (p : ℕ) (c : Pair) (xs : List (Mark T)) → AllByRecursion (λ (y : Mark T). place_of y < p) xs → listed p c.bytes xs ≡ repeats xs (Lists p c)
@@ -77,14 +74,14 @@ module _ {T : Type 0} where
   unfolding alike
   unlisted_unput q p o d [] u f h = refl
   unlisted_unput q p o d (Lists r c ∷ xs) u f h =
-      let other = or_left (same_pair c o.pair) (repeats xs (Lists q o.pair)) h in
-      unlisted_unput q p o (Some c) xs u (λ b e. let z : c ≡ b = cc in ap (λ x. same_pair x o.pair) (sym z) ∙ other) (or_right (same_pair c o.pair) (repeats xs (Lists q o.pair)) h)
+      let other = (or_parts (same_pair c o.pair) (repeats xs (Lists q o.pair)) h).0 in
+      unlisted_unput q p o (Some c) xs u (λ b e. let z : c ≡ b = cc in ap (λ x. same_pair x o.pair) (sym z) ∙ other) (or_parts (same_pair c o.pair) (repeats xs (Lists q o.pair)) h).1
   unlisted_unput q p o d (Puts r x ∷ xs) u f h =
       ap₂ ◌||◌ (ap (λ b. b && bytes_eq x.id.bytes o.id.bytes) (f x.pair u.0)) (unlisted_unput q p o d xs u.1 f h)
 
   repeats_behind : (xs ys : List (Mark T)) (x : Mark T) → repeats xs x ≡ false → repeats (xs ++ ys) x ≡ repeats ys x
   repeats_behind [] ys x h = refl
-  repeats_behind (y ∷ xs) ys x h = ap₂ ◌||◌ (or_left (alike y x) (repeats xs x) h) (repeats_behind xs ys x (or_right (alike y x) (repeats xs x) h))
+  repeats_behind (y ∷ xs) ys x h = ap₂ ◌||◌ (or_parts (alike y x) (repeats xs x) h).0 (repeats_behind xs ys x (or_parts (alike y x) (repeats xs x) h).1)
 
   -- the first repeat, with one more mark
   first_more : (seen xs : List (Mark T)) (x : Mark T) → first_repeat seen (xs ++ (x ∷ [])) ≡ onward (first_repeat seen xs) (place_of x) (repeats (seen ++ xs) x)
@@ -114,8 +111,8 @@ module _ {T : Type 0} where
   -- what is noted of the marks seen so far
   pub record Noted (front : List (Mark T)) (s : Seen) : Type 0 where
     pub first : s.first ≡ first_repeat [] front
-    pub pairs : s.pairs ≡ length (pairs_listed front)
-    pub orders : s.orders ≡ length (orders_put front)
+    pub pairs : s.counts.pairs ≡ length (pairs_listed front)
+    pub orders : s.counts.orders ≡ length (orders_put front)
 
   -- where no repeat was found, none of the marks in front of a block is like an order of it
   only_own : (before done : List (Mark T)) (q p : ℕ) (o : Order T) → Under None before → first_repeat [] (before ++ (Lists q o.pair ∷ done)) ≡ None
@@ -189,7 +186,7 @@ module _ {T : Type 0} (F : venue.Form T) (m : List ℕ) where
       let rise = sides_rise o.pair (q + 7) (done ++ (Puts p o ∷ todo)) k sides in
       let behind : met p o.id.bytes (Puts p o ∷ todo) ≡ false = among_behind (puts_id p o.id.bytes) p (id_behind p o.id.bytes) p (Puts p o ∷ todo) k (omega arith) (rising_behind (q + 7) done todo (Puts p o) k rise) in
       let decided : met p o.id.bytes (done ++ (Puts p o ∷ todo)) ≡ repeats done (Puts p o) =
-      among_front (puts_id p o.id.bytes) done (Puts p o ∷ todo) behind ∙ met_front p o done own (rising_below (q + 7) done todo (Puts p o) k rise) in
+      among_front (puts_id p o.id.bytes) done (Puts p o ∷ todo) behind ∙ met_front p o done own (rising_below (q + 7) k done todo (Puts p o) rise) in
       let sum = marks_sum front in
       let i = n.orders in
       record {
@@ -230,7 +227,7 @@ module _ {T : Type 0} (F : venue.Form T) (m : List ℕ) where
         let rise : Rising 11 (front ++ (Lists p c ∷ back)) (length m) = subst (λ xs. Rising 11 xs (length m)) z (marks_rise F m all e read) in
         let behind : listed p c.bytes (Lists p c ∷ back) ≡ false = among_behind (lists_pair p c.bytes) p (pair_behind p c.bytes) p (Lists p c ∷ back) (length m) (omega arith) (rising_behind 11 front back (Lists p c) (length m) rise) in
         let decided : listed p c.bytes all ≡ repeats front (Lists p c) = ap (listed p c.bytes) z
-        ∙ among_front (lists_pair p c.bytes) front (Lists p c ∷ back) behind ∙ listed_front p c front (rising_below 11 front back (Lists p c) (length m) rise) in
+        ∙ among_front (lists_pair p c.bytes) front (Lists p c ∷ back) behind ∙ listed_front p c front (rising_below 11 (length m) front back (Lists p c) rise) in
         let few = few_marks F m all e read in
         let sum = marks_sum front in
         let i = n.pairs in
@@ -268,11 +265,11 @@ module _ {T : Type 0} (F : venue.Form T) (m : List ℕ) where
     all_noted s t w r = let x = snapshot_parts F m all e read in blocks_run x.count.value [] all s t refl (blocks_read all e x) tt w r
 
   -- a walk that ends without fault: what is noted then is the verdict
-  pub checked_so : (s t : Seen) (e : ℕ) → Noted {T = T} [] s → Walked (MarkSeen F m) (snapshot_of F m) s (Ok e) t → told t.first (record { pairs = t.pairs; orders = t.orders }) ≡ checked (snapshot_of F m)
+  pub checked_so : (s t : Seen) (e : ℕ) → Noted {T = T} [] s → Walked (MarkSeen F m) (snapshot_of F m) s (Ok e) t → told t.first t.counts ≡ checked (snapshot_of F m)
   unfolding checked
   checked_so s t e w h = by (snapshot_of F m) refl h.answer
     where
-      by : (x : Scan (List (Mark T))) → snapshot_of F m ≡ x → Ok e ≡ ends x → told t.first (record { pairs = t.pairs; orders = t.orders }) ≡ checked x
+      by : (x : Scan (List (Mark T))) → snapshot_of F m ≡ x → Ok e ≡ ends x → told t.first t.counts ≡ checked x
       by (Err y) k a = no a
       by (Ok v) k a =
           let n = all_noted v.0 v.1 k s t w (h.done v.0 v.1 k) in

@@ -1,6 +1,6 @@
 -- The first repeat among the marks of a snapshot, and orders put by marks without repeats.
 use Rattle.std.proofs.Common.{◌≡◌, ℕ, Bool, true, false, cond, not, ◌||◌, List, [], ◌∷◌, ◌++◌, Some, None, sym, refl, ap, ◌∙◌, ap₂, append_assoc, append-nil, arith}
-use Rattle.std.proofs.lemmas.Bool.{both_ways, and_from}
+use Rattle.std.proofs.lemmas.Bool.{and_from, or_parts}
 use Rattle.book.specs.declared.order.Order.{Order}
 use Rattle.book.specs.Ladder.{named, stands, apart}
 use Rattle.book.specs.Orderly.{bytes_sym}
@@ -8,14 +8,6 @@ use Rattle.snapshot.specs.declared.mark.Mark.{Mark}
 use Rattle.snapshot.specs.declared.mark.Mark.TheVariants.{Lists, Puts}
 use Rattle.snapshot.specs.Listing.{orders_put}
 use Rattle.snapshot.specs.Repeats.{place_of, alike, repeats, first_repeat, Distinct, RepeatAt}
-
-pub or_left : (a b : Bool) → (a || b) ≡ false → a ≡ false
-or_left true b h = h
-or_left false b h = refl
-
-pub or_right : (a b : Bool) → (a || b) ≡ false → b ≡ false
-or_right true b h = absurd (both_ways _ h refl)
-or_right false b h = h
 
 module _ {T : Type 0} where
   -- none of ms repeats one before it, where seen stand before all of them
@@ -139,12 +131,12 @@ module _ {T : Type 0} where
       ap₂ ◌||◌ (sym (alike_named p q o n) ∙ f [] ms (Puts q n) refl) (stands_none p o ms (λ front back x e. f (Puts q n ∷ front) back x (ap (λ t. Puts q n ∷ t) e)))
 
   behind_first : (y : Mark T) (ms : List (Mark T)) → Distinct (y ∷ ms) → Distinct ms
-  behind_first y ms d = record { apart = λ front back x e. or_right (alike y x) (repeats front x) (d.apart (y ∷ front) back x (ap (λ t. y ∷ t) e)) }
+  behind_first y ms d = record { apart = λ front back x e. (or_parts (alike y x) (repeats front x) (d.apart (y ∷ front) back x (ap (λ t. y ∷ t) e))).1 }
 
   -- the orders that are put without repeats have ids apart
   pub apart_put : (ms : List (Mark T)) → Distinct ms → apart (orders_put ms) ≡ true
   apart_put [] d = refl
   apart_put (Lists q c ∷ ms) d = apart_put ms (behind_first (Lists q c) ms d)
   apart_put (Puts q o ∷ ms) d = and_from _ _
-      (ap not (stands_none q o ms (λ front back x e. or_left (alike (Puts q o) x) (repeats front x) (d.apart (Puts q o ∷ front) back x (ap (λ t. Puts q o ∷ t) e)))))
+      (ap not (stands_none q o ms (λ front back x e. (or_parts (alike (Puts q o) x) (repeats front x) (d.apart (Puts q o ∷ front) back x (ap (λ t. Puts q o ∷ t) e))).0)))
       (apart_put ms (behind_first (Puts q o) ms d))

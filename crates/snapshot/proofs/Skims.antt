@@ -1,8 +1,16 @@
 -- What look-ups in the bytes say of what a scan lists.
-use Rattle.std.proofs.Common.{◌≡◌, ℕ, zero, suc, ◌+◌, ◌-◌, ◌*◌, ◌^◌, ◌<◌, ◌≤◌, min, Bool, true, false, cond, ◌&&◌, ◌||◌, eqb, ltb, List, [], ◌∷◌, ◌++◌, length, Some, Ok, Err, Decides, Option, Result, sym, refl, ap, ◌∙◌, subst, inl, inr, suc-mul, zero-mul, sub-one, arith, length-drop, length-take}
+use Rattle.std.proofs.Common.{Bor, None, take, drop, take_all, ◌≡◌, ℕ, zero, suc, ◌+◌, ◌-◌, ◌*◌, ◌^◌, ◌<◌, ◌≤◌, min, Bool, true, false, cond, ◌&&◌, ◌||◌, eqb, ltb, List, [], ◌∷◌, ◌++◌, length, Some, Ok, Err, Decides, Option, Result, sym, refl, ap, ◌∙◌, subst, inl, inr, suc-mul, zero-mul, arith, length-drop, length-take}
+use Rattle.std.specs.declared.ops.ControlFlow.{ControlFlow}
+use Rattle.std.specs.declared.ops.ControlFlow.TheVariants.{Continue, Break}
+use Rattle.std.specs.Cmp.Lexicographic.{pointwise}
+use Rattle.std.specs.Option.{MatchOption}
+use Rattle.std.specs.Slice.{IsGetRangeResult}
+use Rattle.std.specs.List.{list_any}
 use Rattle.std.specs.Str.{bytes_eq}
+use Rattle.std.proofs.Math.Bool.{or-false, and-false}
+use Rattle.std.proofs.lemmas.List.Folds.{list_any-append}
 use Rattle.std.proofs.lemmas.Slice.Eq.{bytes_eq-Decides}
-use Rattle.std.proofs.lemmas.Bool.{lt-ltb, le-ltb, cond-true, cond-false, cases_lt, eqb-false}
+use Rattle.std.proofs.lemmas.Bool.{both_ways, lt-ltb, le-ltb, cond-true, cond-false, cases_lt, eqb-false}
 use Rattle.std.proofs.lemmas.Bool.Decides.{same_from_decides, Decides-like}
 use Rattle.fields.specs.Values.{Pair, Price, Amount}
 use Rattle.fields.specs.declared.integers.Integer.{Integer}
@@ -19,19 +27,9 @@ use Rattle.message.specs.Reading.{Reading, ◌▷◌, field, value_at, tail_at}
 use Rattle.message.proofs.Readings.{value_read, tail_read}
 use Rattle.snapshot.specs.declared.mark.Mark.{Mark}
 use Rattle.snapshot.specs.declared.mark.Mark.TheVariants.{Lists, Puts}
-use Rattle.snapshot.specs.declared.skim.Skim.{Skim}
-use Rattle.snapshot.specs.declared.skim.Skim.TheVariants.{Met, Past, Next}
 use Rattle.snapshot.specs.Scanning.{Scan, ◌▸◌, ◌⨟◌, field_at, tail_then, times}
 use Rattle.snapshot.specs.Snapshot.{whole_order, order_at, level_at, side_at, pair_at, pairs_from, snapshot_of}
-use Rattle.snapshot.specs.Skims.{among, puts_id, lists_pair, met, listed, Says, Skims, Ends, PutsId, ListsPair, id_offset, order_width, count_or0, count_in, strided, sides_at}
-
-or_false : (b : Bool) → (b || false) ≡ b
-or_false true = refl
-or_false false = refl
-
-and_false : (b : Bool) → (b && false) ≡ false
-and_false true = refl
-and_false false = refl
+use Rattle.snapshot.specs.Skims.{puts_id, lists_pair, met, listed, Says, Skims, Ends, ListsPair, id_offset, order_width, count_or0, count_in, strided, sides_at}
 
 -- bytes that are looked for at an offset, and are there
 pub compared : (m bs : List ℕ) (w at : ℕ) (r : Bool) → 0 < w → length bs ≡ w → Decides r ((at + length bs ≤ length m) × (field at (length bs) m ≡ bs)) → r ≡ bytes_eq (field at w m) bs
@@ -43,7 +41,20 @@ compared m bs w at r some long tells = same_from_decides r (bytes_eq (field at w
     back : field at w m ≡ bs → (at + length bs ≤ length m) × (field at (length bs) m ≡ bs)
     back e = (omega (arith, simp (length-take, length-drop) at (ap length e)), subst (λ n. field at n m ≡ bs) (sym long) e)
 
--- Ids at a stride.
+-- bytes that stand at an offset, as the code compares them
+pub same_told : (m bs : List ℕ) (at : ℕ) (o : Option (Bor (List ℕ))) (r : Bool) {P : Bor (List ℕ) → Type 0} → IsGetRangeResult m at (length m) o → MatchOption o (r ≡ false) P
+    → ((x : Bor (List ℕ)) → P x → r ≡ pointwise eqb bs (take (length bs) x.now)) → Decides r ((at + length bs ≤ length m) × (field at (length bs) m ≡ bs))
+same_told m bs at None r g h f = (λ t. absurd (both_ways r h t), λ t. absurd (elim g.0 [ inl l ↦ omega (arith, t.0) | inr l ↦ omega arith ]))
+same_told m bs at (Some x) r g h f =
+    let i = g.0 in
+    let whole : x.now ≡ drop at m = i.2 ∙ take_all (length m - at) (drop at m) (omega (arith, length-drop at m)) in
+    let told : r ≡ bytes_eq bs (field at (length bs) m) = f x h ∙ ap (λ (l : List ℕ). bytes_eq bs (take (length bs) l)) whole in
+    let same = bytes_eq-Decides bs (field at (length bs) m) in (
+      λ t. let e = same.0 (sym told ∙ t) in (omega (arith, ap length e, length-take (length bs) (drop at m), length-drop at m, i.0), sym e),
+      λ t. told ∙ same.1 (sym t.1),
+    )
+
+-- Ids at a stride, of which i of n are passed.
 module _ (m : List ℕ) (upto : ℕ) (id : List ℕ) (step : ℕ) where
   -- none from the offset on
   pub strided_past : (n at : ℕ) → upto ≤ at → strided m upto id step n at ≡ false
@@ -51,26 +62,29 @@ module _ (m : List ℕ) (upto : ℕ) (id : List ℕ) (step : ℕ) where
   strided_past zero at h = refl
   strided_past (suc n) at h = ap (λ b. (b && bytes_eq (field at 15 m) id) || strided m upto id step n (at + step)) (le-ltb at upto h) ∙ strided_past n (at + step) (omega arith)
 
-  pub strided_none : (n at : ℕ) → n ≡ 0 → strided m upto id step n at ≡ false
+  pub strided_none : (n i at : ℕ) → n ≤ i → strided m upto id step (n - i) at ≡ false
   unfolding strided
-  strided_none n at h = ap (λ k. strided m upto id step k at) h
+  strided_none n i at h = let z : n - i ≡ 0 = omega arith in ap (λ k. strided m upto id step k at) z
 
-  module _ (at : ℕ) (r : Bool) (is : r ≡ bytes_eq (field at 15 m) id) where
-    pub strided_here : (n : ℕ) → 0 < n → at < upto → r ≡ true → strided m upto id step n at ≡ true
+  module _ (at : ℕ) (r : Bool) (is : r ≡ bytes_eq (field at 15 m) id) (n i : ℕ) (turn : i < n) where
+    abbrev Onward : Bool → Bool
+    Onward b = b || strided m upto id step (n - (i + 1)) (at + step)
+
+    one_more : strided m upto id step (n - i) at ≡ Onward (ltb at upto && r)
     unfolding strided
-    strided_here zero h l e = absurd (omega arith)
-    strided_here (suc n) h l e = ap (λ b. (b && bytes_eq (field at 15 m) id) || strided m upto id step n (at + step)) (lt-ltb at upto l) ∙ ap (λ b. b || strided m upto id step n (at + step)) (sym is ∙ e)
+    one_more = let z : n - i ≡ suc (n - (i + 1)) = omega arith in ap (λ k. strided m upto id step k at) z ∙ ap (λ b. Onward (ltb at upto && b)) (sym is)
 
-    further : (n next : ℕ) → upto ≤ 2 ^ 64 - 1 → next ≡ min (at + step) (2 ^ 64 - 1) → strided m upto id step n (at + step) ≡ strided m upto id step n next
-    further n next u h = elim (cases_lt (at + step) (2 ^ 64)) [
-      | inl l ↦ let e : at + step ≡ next = omega arith in ap (λ k. strided m upto id step n k) e
-      | inr l ↦ strided_past n (at + step) (omega arith) ∙ sym (strided_past n next (omega arith))
+    pub strided_here : at < upto → r ≡ true → strided m upto id step (n - i) at ≡ true
+    strided_here l e = one_more ∙ ap (λ b. Onward (b && r)) (lt-ltb at upto l) ∙ ap Onward e
+
+    further : (next : ℕ) → upto ≤ 2 ^ 64 - 1 → next ≡ min (at + step) (2 ^ 64 - 1) → strided m upto id step (n - (i + 1)) (at + step) ≡ strided m upto id step (n - (i + 1)) next
+    further next u h = elim (cases_lt (at + step) (2 ^ 64)) [
+      | inl l ↦ let e : at + step ≡ next = omega arith in ap (λ k. strided m upto id step (n - (i + 1)) k) e
+      | inr l ↦ strided_past (n - (i + 1)) (at + step) (omega arith) ∙ sym (strided_past (n - (i + 1)) next (omega arith))
     ]
 
-    pub strided_next : (n next : ℕ) → 0 < n → r ≡ false → upto ≤ 2 ^ 64 - 1 → next ≡ min (at + step) (2 ^ 64 - 1) → strided m upto id step n at ≡ strided m upto id step (n - 1) next
-    unfolding strided
-    strided_next zero next h e u k = absurd (omega arith)
-    strided_next (suc n) next h e u k = ap (λ b. (ltb at upto && b) || strided m upto id step n (at + step)) (sym is ∙ e) ∙ ap (λ b. b || strided m upto id step n (at + step)) (and_false (ltb at upto)) ∙ further n next u k ∙ ap (λ j. strided m upto id step j next) (sym (sub-one (suc n)))
+    pub strided_next : (next : ℕ) → r ≡ false → upto ≤ 2 ^ 64 - 1 → next ≡ min (at + step) (2 ^ 64 - 1) → strided m upto id step (n - i) at ≡ strided m upto id step (n - (i + 1)) next
+    strided_next next e u k = one_more ∙ ap (λ b. Onward (ltb at upto && b)) e ∙ ap Onward (and-false (ltb at upto)) ∙ further next u k
 
 -- What a scan without fault says of its parts.
 no : {X A : Type 0} {v : A} {y : MessageFault} → ◌≡◌ {A = Result A MessageFault} (Err y) (Ok v) → X
@@ -103,10 +117,14 @@ seq_inv {A} x f ms e h =
     let same : ◌≡◌ {A = List A × ℕ} (i.0 ++ j.0, j.1) (ms, e) = cc in
     record { xs = i.0; mid = i.1; ys = j.0; first = i.2; then = j.2 ∙ ap (λ (t : List A × ℕ). Ok (j.0, t.1)) same; both = sym (ap (λ (t : List A × ℕ). t.0) same) }
 
-times_inv : {A : Type 0} (f : ℕ → Scan (List A)) (n p : ℕ) (ms : List A) (e : ℕ) → 0 < n → times f n p ≡ Ok (ms, e) → Joined (f p) (times f (n - 1)) ms e
+-- the next of n, of which i are passed
+times_more : {A : Type 0} (f : ℕ → Scan (List A)) (n i p : ℕ) → i < n → times f (n - i) p ≡ (f p ⨟ times f (n - (i + 1)))
 unfolding times
-times_inv f zero p ms e l h = absurd (omega arith)
-times_inv f (suc n) p ms e l h = subst (λ j. Joined (f p) (times f j) ms e) (sym (sub-one (suc n))) (seq_inv (f p) (times f n) ms e h)
+times_more f n i p l = let z : n - i ≡ suc (n - (i + 1)) = omega arith in ap (λ k. times f k p) z
+
+times_over : {A : Type 0} (f : ℕ → Scan (List A)) (n i p : ℕ) → n ≤ i → times f (n - i) p ≡ Ok ([], p)
+unfolding times
+times_over f n i p l = let z : n - i ≡ 0 = omega arith in ap (λ k. times f k p) z
 
 -- a field that is read
 record FieldRead {A : Type 0} (m : List ℕ) (w : ℕ) (f : List ℕ → Option A) (p : ℕ) (v : A) (e : ℕ) : Type 0 where
@@ -134,34 +152,26 @@ tail_inv F m p t e h =
 
 -- Tests of marks.
 module _ {T : Type 0} (t : Mark T → Bool) where
-  or_join : (a b c : Bool) → (a || (b || c)) ≡ ((a || b) || c)
-  or_join true b c = refl
-  or_join false b c = refl
+  pub among_later : (xs ys : List (Mark T)) → list_any t xs ≡ false → list_any t (xs ++ ys) ≡ list_any t ys
+  among_later xs ys h = list_any-append t xs ys ∙ ap (λ b. b || list_any t ys) h
 
-  pub among_joined : (xs ys : List (Mark T)) → among t (xs ++ ys) ≡ (among t xs || among t ys)
-  among_joined [] ys = refl
-  among_joined (x ∷ xs) ys = ap (λ b. t x || b) (among_joined xs ys) ∙ or_join (t x) (among t xs) (among t ys)
-
-  pub among_later : (xs ys : List (Mark T)) → among t xs ≡ false → among t (xs ++ ys) ≡ among t ys
-  among_later xs ys h = among_joined xs ys ∙ ap (λ b. b || among t ys) h
-
-  pub among_sooner : (xs ys : List (Mark T)) → among t xs ≡ true → among t (xs ++ ys) ≡ true
-  among_sooner xs ys h = among_joined xs ys ∙ ap (λ b. b || among t ys) h
+  pub among_sooner : (xs ys : List (Mark T)) → list_any t xs ≡ true → list_any t (xs ++ ys) ≡ true
+  among_sooner xs ys h = list_any-append t xs ys ∙ ap (λ b. b || list_any t ys) h
 
   -- what is listed from low on passes nowhere, and ends at or after low
   abbrev pub Void : ℕ → (ℕ → Scan (List (Mark T))) → Type 0
-  Void low f = (p : ℕ) (ms : List (Mark T)) (e : ℕ) → low ≤ p → f p ≡ Ok (ms, e) → (among t ms ≡ false) × (low ≤ e)
+  Void low f = (p : ℕ) (ms : List (Mark T)) (e : ℕ) → low ≤ p → f p ≡ Ok (ms, e) → (list_any t ms ≡ false) × (low ≤ e)
 
   pub times_void : (low : ℕ) (f : ℕ → Scan (List (Mark T))) → Void low f → (n : ℕ) → Void low (times f n)
   unfolding times
   times_void low f h zero p ms e l k =
       let same : ◌≡◌ {A = List (Mark T) × ℕ} ([], p) (ms, e) = cc in
-      (ap (λ (z : List (Mark T) × ℕ). among t z.0) (sym same), omega (arith, ap (λ (z : List (Mark T) × ℕ). z.1) same))
+      (ap (λ (z : List (Mark T) × ℕ). list_any t z.0) (sym same), omega (arith, ap (λ (z : List (Mark T) × ℕ). z.1) same))
   times_void low f h (suc n) p ms e l k =
       let j = seq_inv (f p) (times f n) ms e k in
       let a = h p j.xs j.mid l j.first in
       let b = times_void low f h n j.mid j.ys e a.1 j.then in
-      (ap (among t) j.both ∙ among_later j.xs j.ys a.0 ∙ b.0, b.1)
+      (ap (list_any t) j.both ∙ among_later j.xs j.ys a.0 ∙ b.0, b.1)
 
 -- An order: one mark, with the bytes at the id's place.
 record OrderRead {T : Type 0} (F : venue.Form T) (m : List ℕ) (p : ℕ) (ms : List (Mark T)) (e : ℕ) : Type 0 where
@@ -312,128 +322,116 @@ module _ {T : Type 0} (F : venue.Form T) (m : List ℕ) (c : Pair) (s : Side) wh
   side_unmet upto id p ms e l h = times_void (puts_id upto id) upto (level_at F m c s) (level_unmet upto id) (count_in m p) (p + 4) ms e (omega arith) (side_inv p ms e h).1
 
 -- What is answered of an id.
-module _ {T : Type 0} (F : venue.Form T) (m : List ℕ) (upto : ℕ) (id : List ℕ) where
-  says_later : (xs ys : List (Mark T)) (e : ℕ) (a : Skim) → met upto id xs ≡ met upto id ys → Says upto id ys e a → Says upto id xs e a
-  says_later xs ys e Met h k = h ∙ k
-  says_later xs ys e Past h k = (h ∙ k.0, k.1)
-  says_later xs ys e (Next q) h k = (h ∙ k.0, k.1)
+module _ {T : Type 0} (upto : ℕ) (id : List ℕ) where
+  says_later : (xs ys : List (Mark T)) (e : ℕ) (a : ControlFlow Bool ℕ) → met upto id xs ≡ met upto id ys → Says upto id ys e a → Says upto id xs e a
+  says_later xs ys e (Break true) h k = h ∙ k
+  says_later xs ys e (Break false) h k = (h ∙ k.0, k.1)
+  says_later xs ys e (Continue q) h k = (h ∙ k.0, k.1)
 
-  module _ (c : Pair) (s : Side) where
-    abbrev Levels : ℕ → ℕ → Scan (List (Mark T))
-    Levels n at = times (level_at F m c s) n at
+  module _ (x : Scan (List (Mark T))) (f : ℕ → Scan (List (Mark T))) where
+    -- one scan, and then what follows it
+    pub skims_on : (q : ℕ) (a : ControlFlow Bool ℕ) → Skims upto id x (Continue q) → Skims upto id (f q) a → Skims upto id (x ⨟ f) a
+    skims_on q a h k = record {
+      says = λ ms e z.
+          let j = seq_inv x f ms e z in
+          let i = h.says j.xs j.mid j.first in
+          says_later ms j.ys e a (ap (met upto id) j.both ∙ among_later (puts_id upto id) j.xs j.ys i.0) (k.says j.ys e (ap f i.1 ∙ j.then));
+    }
 
-    pub levels_done : (n at : ℕ) → n ≡ 0 → Skims upto id (Levels n at) (Next at)
-    unfolding times
-    levels_done n at h = record {
-      says = λ ms e k.
-          let same : ◌≡◌ {A = List (Mark T) × ℕ} ([], at) (ms, e) = cc (ap (λ n. Levels n at) h, k) in
+    -- one that breaks off, where what follows the offset puts nothing before it
+    pub skims_off : (b : Bool) → Void (puts_id upto id) upto f → Skims upto id x (Break b) → Skims upto id (x ⨟ f) (Break b)
+    skims_off true v h = record {
+      says = λ ms e z.
+          let j = seq_inv x f ms e z in
+          ap (met upto id) j.both ∙ among_sooner (puts_id upto id) j.xs j.ys (h.says j.xs j.mid j.first);
+    }
+    skims_off false v h = record {
+      says = λ ms e z.
+          let j = seq_inv x f ms e z in
+          let i = h.says j.xs j.mid j.first in
+          let w = v j.mid j.ys e i.1 j.then in
+          (ap (met upto id) j.both ∙ among_later (puts_id upto id) j.xs j.ys i.0 ∙ w.0, w.1);
+    }
+
+  -- n blocks, of which i are passed: what is said of those left is said of all
+  module _ (f : ℕ → Scan (List (Mark T))) (n start : ℕ) where
+    abbrev pub SkimsLeft : ℕ → ℕ → Type 0
+    SkimsLeft i at = (a : ControlFlow Bool ℕ) → Skims upto id (times f (n - i) at) a → Skims upto id (times f n start) a
+
+    pub skims_next : (i at q : ℕ) → i < n → Skims upto id (f at) (Continue q) → SkimsLeft i at → SkimsLeft (i + 1) q
+    skims_next i at q l h k a z = k a (subst (λ x. Skims upto id x a) (sym (times_more f n i at l)) (skims_on (f at) (times f (n - (i + 1))) q a h z))
+
+    pub skims_stop : (i at : ℕ) (b : Bool) → Void (puts_id upto id) upto f → i < n → Skims upto id (f at) (Break b) → SkimsLeft i at → Skims upto id (times f n start) (Break b)
+    skims_stop i at b v l h k = k (Break b) (subst (λ x. Skims upto id x (Break b)) (sym (times_more f n i at l)) (skims_off (f at) (times f (n - (i + 1))) b (times_void (puts_id upto id) upto f v (n - (i + 1))) h))
+
+    pub skims_done : (i at : ℕ) → n ≤ i → SkimsLeft i at → Skims upto id (times f n start) (Continue at)
+    skims_done i at l k = k (Continue at) record {
+      says = λ ms e z.
+          let over = times_over f n i at l in
+          let same : ◌≡◌ {A = List (Mark T) × ℕ} ([], at) (ms, e) = cc in
           (ap (λ (z : List (Mark T) × ℕ). met upto id z.0) (sym same), ap (λ (z : List (Mark T) × ℕ). z.1) same);
     }
 
-    pub levels_past : (n at : ℕ) → upto ≤ at → Skims upto id (Levels n at) Past
-    levels_past n at h = record { says = λ ms e k. times_void (puts_id upto id) upto (level_at F m c s) (level_unmet F m c s upto id) n at ms e h k }
-
-    -- the level at `at`, as the code goes over it
-    module _ (place size : ℕ) (place_is : place ≡ id_offset F) (size_is : size ≡ order_width F) (n at q k r : ℕ) (some : 0 < n)
-        (q-is : at + 10 ≤ length m → q ≡ at + 10) (k-is : k ≡ count_in m q) (r-is : at + (14 + place) ≤ length m → r ≡ at + (14 + place)) where
-      record First (ms : List (Mark T)) (e : ℕ) : Type 0 where
-        parts : Joined (level_at F m c s at) (times (level_at F m c s) (n - 1)) ms e
-        here : met upto id parts.xs ≡ strided m upto id size k r
-        end : parts.mid ≡ at + (14 + k * size)
-        within : parts.mid ≤ length m
-
-      levels_first : (ms : List (Mark T)) (e : ℕ) → Levels n at ≡ Ok (ms, e) → First ms e
-      levels_first ms e h =
-          let j = times_inv (level_at F m c s) n at ms e some h in
-          let l = level_inv F m c s at j.xs j.mid j.first in
-          let count : count_in m (at + 10) ≡ k = sym (k-is ∙ ap (count_in m) (q-is (omega (arith, l.room)))) in
-          let start : at + (14 + id_offset F) ≡ r = ap (λ i. at + (14 + i)) (sym place_is) ∙ sym (r-is (omega (arith, l.room))) in
-          record {
-            parts = j;
-            here = l.strides upto id ∙ ap (λ i. strided m upto id i (count_in m (at + 10)) (at + (14 + id_offset F))) (sym size_is) ∙ ap (λ i. strided m upto id size i (at + (14 + id_offset F))) count ∙ ap (strided m upto id size k) start;
-            end = l.end ∙ ap (λ i. at + (14 + i * order_width F)) count ∙ ap (λ i. at + (14 + k * i)) (sym size_is);
-            within = l.within;
-          }
-
-      pub levels_met : strided m upto id size k r ≡ true → Skims upto id (Levels n at) Met
-      levels_met h = record {
-        says = λ ms e j.
-            let f = levels_first ms e j in
-            ap (met upto id) f.parts.both ∙ among_sooner (puts_id upto id) f.parts.xs f.parts.ys (f.here ∙ h);
-      }
-
-      pub levels_next : (next : ℕ) (a : Skim) → strided m upto id size k r ≡ false → (at + (14 + k * size) ≤ length m → next ≡ at + (14 + k * size)) → Skims upto id (Levels (n - 1) next) a → Skims upto id (Levels n at) a
-      levels_next next a h next-is rest = record {
-        says = λ ms e j.
-            let f = levels_first ms e j in
-            let at_next : next ≡ f.parts.mid = next-is (omega (arith, f.end, f.within)) ∙ sym f.end in
-            says_later ms f.parts.ys e a
-            (ap (met upto id) f.parts.both ∙ among_later (puts_id upto id) f.parts.xs f.parts.ys (f.here ∙ h))
-            (rest.says f.parts.ys e (ap (Levels (n - 1)) at_next ∙ f.parts.then));
-      }
-
-    -- a side, as the code goes into it
-    pub side_skims : (p q k : ℕ) (a : Skim) → (p + 4 ≤ length m → q ≡ p + 4) → k ≡ count_in m p → Skims upto id (Levels k q) a → Skims upto id (side_at F m c s p) a
-    side_skims p q k a q-is k-is h = record {
-      says = λ ms e j.
-          let i = side_inv F m c s p ms e j in
-          h.says ms e (ap (λ n. Levels n q) k-is ∙ ap (Levels (count_in m p)) (q-is i.0) ∙ i.1);
-    }
-
-  -- bids, and then offers
-  module _ (c : Pair) (p : ℕ) where
-    pub sides_met : Skims upto id (side_at F m c Bid p) Met → PutsId upto id (sides_at F m c p) true
-    sides_met h = record {
-      found = λ ms e k.
-          let j = seq_inv (side_at F m c Bid p) (side_at F m c Offer) ms e k in
-          sym (ap (met upto id) j.both ∙ among_sooner (puts_id upto id) j.xs j.ys (h.says j.xs j.mid j.first));
-    }
-
-    pub sides_past : Skims upto id (side_at F m c Bid p) Past → PutsId upto id (sides_at F m c p) false
-    sides_past h = record {
-      found = λ ms e k.
-          let j = seq_inv (side_at F m c Bid p) (side_at F m c Offer) ms e k in
-          let a = h.says j.xs j.mid j.first in
-          let b = side_unmet F m c Offer upto id j.mid j.ys e a.1 j.then in
-          sym (ap (met upto id) j.both ∙ among_later (puts_id upto id) j.xs j.ys a.0 ∙ b.0);
-    }
-
-    pub sides_next : (q : ℕ) (r : Bool) → Skims upto id (side_at F m c Bid p) (Next q) → PutsId upto id (side_at F m c Offer q) r → PutsId upto id (sides_at F m c p) r
-    sides_next q r h o = record {
-      found = λ ms e k.
-          let j = seq_inv (side_at F m c Bid p) (side_at F m c Offer) ms e k in
-          let a = h.says j.xs j.mid j.first in
-          o.found j.ys e (ap (side_at F m c Offer) a.1 ∙ j.then) ∙ sym (ap (met upto id) j.both ∙ among_later (puts_id upto id) j.xs j.ys a.0);
-    }
-
-    -- the same by both readings
-    pub sides_read : (xs : List (Mark T)) (q : ℕ) (ys : List (Mark T)) (e : ℕ) → side_at F m c Bid p ≡ Ok (xs, q) → side_at F m c Offer q ≡ Ok (ys, e) → sides_at F m c p ≡ Ok (xs ++ ys, e)
-    sides_read xs q ys e a b = rw (a, b)
-
--- Where levels end.
 module _ {T : Type 0} (F : venue.Form T) (m : List ℕ) (c : Pair) (s : Side) where
-  pub ends_done : (n at : ℕ) → n ≡ 0 → Ends (times (level_at F m c s) n at) at
-  unfolding times
-  ends_done n at h = record {
-    end = λ ms e k.
-        let same : ◌≡◌ {A = List (Mark T) × ℕ} ([], at) (ms, e) = cc (ap (λ n. times (level_at F m c s) n at) h, k) in
-        ap (λ (z : List (Mark T) × ℕ). z.1) same;
+  -- the level at `at`, as the code goes over it
+  module _ (at count : ℕ) (count-is : at + 10 ≤ length m → count ≡ count_in m (at + 10)) where
+    level_ends_at : (ms : List (Mark T)) (e : ℕ) → level_at F m c s at ≡ Ok (ms, e) → (count ≡ count_in m (at + 10)) × (e ≡ at + (14 + count * order_width F)) × (e ≤ length m)
+    level_ends_at ms e h =
+        let l = level_inv F m c s at ms e h in
+        let n = count-is (omega (arith, l.room)) in
+        (n, l.end ∙ ap (λ i. at + (14 + i * order_width F)) (sym n), l.within)
+
+    pub level_ends : (next : ℕ) → (at + (14 + count * order_width F) ≤ length m → next ≡ at + (14 + count * order_width F)) → Ends (level_at F m c s at) next
+    level_ends next next-is = record { end = λ ms e h. let l = level_ends_at ms e h in next-is (omega (arith, l.1, l.2)) ∙ sym l.1 }
+
+    module _ (upto : ℕ) (id : List ℕ) (place size ids : ℕ) (place_is : place ≡ id_offset F) (size_is : size ≡ order_width F) (ids-is : at + (14 + place) ≤ length m → ids ≡ at + (14 + place)) where
+      level_met : (ms : List (Mark T)) (e : ℕ) → level_at F m c s at ≡ Ok (ms, e) → met upto id ms ≡ strided m upto id size count ids
+      level_met ms e h =
+          let l = level_inv F m c s at ms e h in
+          let n = (level_ends_at ms e h).0 in
+          let start : at + (14 + id_offset F) ≡ ids = ap (λ i. at + (14 + i)) (sym place_is) ∙ sym (ids-is (omega (arith, l.room))) in
+          l.strides upto id ∙ ap (λ i. strided m upto id i (count_in m (at + 10)) (at + (14 + id_offset F))) (sym size_is) ∙ ap (λ i. strided m upto id size i (at + (14 + id_offset F))) (sym n) ∙ ap (strided m upto id size count) start
+
+      pub level_skims_met : strided m upto id size count ids ≡ true → Skims upto id (level_at F m c s at) (Break true)
+      level_skims_met h = record { says = λ ms e j. level_met ms e j ∙ h }
+
+      pub level_skims_on : (next : ℕ) → strided m upto id size count ids ≡ false → (at + (14 + count * order_width F) ≤ length m → next ≡ at + (14 + count * order_width F)) → Skims upto id (level_at F m c s at) (Continue next)
+      level_skims_on next h next-is = record { says = λ ms e j. (level_met ms e j ∙ h, (level_ends next next-is).end ms e j) }
+
+  pub level_skims_past : (upto : ℕ) (id : List ℕ) (at : ℕ) → upto ≤ at → Skims upto id (level_at F m c s at) (Break false)
+  level_skims_past upto id at h = record { says = λ ms e z. level_unmet F m c s upto id at ms e h z }
+
+  -- a side, as the code goes into it
+  module _ (p q k : ℕ) (q-is : p + 4 ≤ length m → q ≡ p + 4) (k-is : k ≡ count_in m p) where
+    side_times : (ms : List (Mark T)) (e : ℕ) → side_at F m c s p ≡ Ok (ms, e) → times (level_at F m c s) k q ≡ Ok (ms, e)
+    side_times ms e h =
+        let i = side_inv F m c s p ms e h in
+        ap (λ n. times (level_at F m c s) n q) k-is ∙ ap (times (level_at F m c s) (count_in m p)) (q-is i.0) ∙ i.1
+
+    pub side_skims : (upto : ℕ) (id : List ℕ) (a : ControlFlow Bool ℕ) → Skims upto id (times (level_at F m c s) k q) a → Skims upto id (side_at F m c s p) a
+    side_skims upto id a h = record { says = λ ms e j. h.says ms e (side_times ms e j) }
+
+    pub side_ends : (r : ℕ) → Ends (times (level_at F m c s) k q) r → Ends (side_at F m c s p) r
+    side_ends r h = record { end = λ ms e j. h.end ms e (side_times ms e j) }
+
+-- Where blocks end, of which i of n are passed.
+module _ {A : Type 0} (f : ℕ → Scan (List (Mark A))) (n start : ℕ) where
+  abbrev pub EndsLeft : ℕ → ℕ → Type 0
+  EndsLeft i at = (r : ℕ) → Ends (times f (n - i) at) r → Ends (times f n start) r
+
+  pub ends_next : (i at q : ℕ) → i < n → Ends (f at) q → EndsLeft i at → EndsLeft (i + 1) q
+  ends_next i at q l h k r z = k r record {
+    end = λ ms e y.
+        let j = seq_inv (f at) (times f (n - (i + 1))) ms e (sym (times_more f n i at l) ∙ y) in
+        z.end j.ys e (ap (times f (n - (i + 1))) (h.end j.xs j.mid j.first) ∙ j.then);
   }
 
-  pub ends_next : (size : ℕ) → size ≡ order_width F → (n at q k next r : ℕ) → 0 < n → (at + 10 ≤ length m → q ≡ at + 10) → k ≡ count_in m q
-      → (at + (14 + k * size) ≤ length m → next ≡ at + (14 + k * size)) → Ends (times (level_at F m c s) (n - 1) next) r → Ends (times (level_at F m c s) n at) r
-  ends_next size size_is n at q k next r some q-is k-is next-is rest = record {
-    end = λ ms e j.
-        let f = levels_first F m 0 [] c s (id_offset F) size refl size_is n at q k (at + (14 + id_offset F)) some q-is k-is (λ _. refl) ms e j in
-        let at_next : next ≡ f.parts.mid = next-is (omega (arith, f.end, f.within)) ∙ sym f.end in
-        rest.end f.parts.ys e (ap (times (level_at F m c s) (n - 1)) at_next ∙ f.parts.then);
-  }
-
-  pub side_ends : (p q k r : ℕ) → (p + 4 ≤ length m → q ≡ p + 4) → k ≡ count_in m p → Ends (times (level_at F m c s) k q) r → Ends (side_at F m c s p) r
-  side_ends p q k r q-is k-is h = record {
-    end = λ ms e j.
-        let i = side_inv F m c s p ms e j in
-        h.end ms e (ap (λ n. times (level_at F m c s) n q) k-is ∙ ap (times (level_at F m c s) (count_in m p)) (q-is i.0) ∙ i.1);
+  pub ends_done : (i at : ℕ) → n ≤ i → EndsLeft i at → Ends (times f n start) at
+  ends_done i at l k = k at record {
+    end = λ ms e z.
+        let over = times_over f n i at l in
+        let same : ◌≡◌ {A = List (Mark A) × ℕ} ([], at) (ms, e) = cc in
+        ap (λ (z : List (Mark A) × ℕ). z.1) same;
   }
 
 -- A pair: its bytes, and then its sides.
@@ -502,44 +500,51 @@ module _ {T : Type 0} (F : venue.Form T) (m : List ℕ) where
         let a = side_unlisted F m i.pair Bid p upto pair (p + 7) j.xs j.mid (omega arith) j.first in
         let b = side_unlisted F m i.pair Offer p upto pair j.mid j.ys e a.1 j.then in
         let none : listed upto pair i.sides ≡ false = ap (listed upto pair) j.both ∙ among_later (lists_pair upto pair) j.xs j.ys a.0 ∙ b.0 in
-        (ap (listed upto pair) i.marks ∙ ap (λ b. (ltb p upto && bytes_eq i.pair.bytes pair) || b) none ∙ or_false (ltb p upto && bytes_eq i.pair.bytes pair) ∙ ap (λ bs. ltb p upto && bytes_eq bs pair) i.kept, b.1)
+        (ap (listed upto pair) i.marks ∙ ap (λ b. (ltb p upto && bytes_eq i.pair.bytes pair) || b) none ∙ or-false (ltb p upto && bytes_eq i.pair.bytes pair) ∙ ap (λ bs. ltb p upto && bytes_eq bs pair) i.kept, b.1)
 
     pair_unlisted : Void (lists_pair upto pair) upto (pair_at F m)
     pair_unlisted p ms e l h =
         let i = pair_listed p ms e h in
         (i.0 ∙ ap (λ b. b && bytes_eq (field p 7 m) pair) (le-ltb p upto l), omega (arith, i.1))
 
-    pub pairs_done : (n at : ℕ) → n ≡ 0 → ListsPair upto pair (times (pair_at F m) n at) false
-    unfolding times
-    pairs_done n at h = record {
-      found = λ ms e k.
-          let same : ◌≡◌ {A = List (Mark T) × ℕ} ([], at) (ms, e) = cc (ap (λ n. times (pair_at F m) n at) h, k) in
-          ap (λ (z : List (Mark T) × ℕ). listed upto pair z.0) same;
-    }
+    -- n pairs from `start`, of which i are passed: what is said of those left is said of all
+    module _ (n start i at : ℕ) where
+      abbrev pub ListsLeft : Type 0
+      ListsLeft = (r : Bool) → ListsPair upto pair (times (pair_at F m) (n - i) at) r → ListsPair upto pair (times (pair_at F m) n start) r
 
-    pub pairs_past : (n at : ℕ) → upto ≤ at → ListsPair upto pair (times (pair_at F m) n at) false
-    pairs_past n at h = record { found = λ ms e k. sym (times_void (lists_pair upto pair) upto (pair_at F m) pair_unlisted n at ms e h k).0 }
-
-    -- the pair at `at`, as the code goes over it
-    module _ (n at : ℕ) (r : Bool) (some : 0 < n) (before : at < upto) (is : r ≡ bytes_eq (field at 7 m) pair) where
-      first_listed : (xs : List (Mark T)) (e : ℕ) → pair_at F m at ≡ Ok (xs, e) → listed upto pair xs ≡ r
-      first_listed xs e h = (pair_listed at xs e h).0 ∙ ap (λ b. b && bytes_eq (field at 7 m) pair) (lt-ltb at upto before) ∙ sym is
-
-      pub pairs_met_lem : r ≡ true → ListsPair upto pair (times (pair_at F m) n at) true
-      pairs_met_lem h = record {
-        found = λ ms e k.
-            let j = times_inv (pair_at F m) n at ms e some k in
-            sym (ap (listed upto pair) j.both ∙ among_sooner (lists_pair upto pair) j.xs j.ys (first_listed j.xs j.mid j.first ∙ h));
+      pub pairs_done : n ≤ i → ListsLeft → ListsPair upto pair (times (pair_at F m) n start) false
+      pairs_done l k = k false record {
+        found = λ ms e z.
+            let over = times_over (pair_at F m) n i at l in
+            let same : ◌≡◌ {A = List (Mark T) × ℕ} ([], at) (ms, e) = cc in
+            ap (λ (z : List (Mark T) × ℕ). listed upto pair z.0) same;
       }
 
-      pub pairs_next : (next : ℕ) (a : Bool) → r ≡ false → Ends (pair_at F m at) next → ListsPair upto pair (times (pair_at F m) (n - 1) next) a → ListsPair upto pair (times (pair_at F m) n at) a
-      pairs_next next a h ends rest = record {
-        found = λ ms e k.
-            let j = times_inv (pair_at F m) n at ms e some k in
-            let at_next = ends.end j.xs j.mid j.first in
-            rest.found j.ys e (ap (times (pair_at F m) (n - 1)) at_next ∙ j.then)
-            ∙ sym (ap (listed upto pair) j.both ∙ among_later (lists_pair upto pair) j.xs j.ys (first_listed j.xs j.mid j.first ∙ h));
-      }
+      pub pairs_past : upto ≤ at → ListsLeft → ListsPair upto pair (times (pair_at F m) n start) false
+      pairs_past h k = k false record { found = λ ms e z. sym (times_void (lists_pair upto pair) upto (pair_at F m) pair_unlisted (n - i) at ms e h z).0 }
+
+      -- the pair at `at`, as the code goes over it
+      module _ (l : i < n) (before : at < upto) (r : Bool) (is : r ≡ bytes_eq (field at 7 m) pair) where
+        first_listed : (ms : List (Mark T)) (e : ℕ) → times (pair_at F m) (n - i) at ≡ Ok (ms, e) → (j : Joined (pair_at F m at) (times (pair_at F m) (n - (i + 1))) ms e) × (listed upto pair j.xs ≡ r)
+        first_listed ms e z =
+            let j = seq_inv (pair_at F m at) (times (pair_at F m) (n - (i + 1))) ms e (sym (times_more (pair_at F m) n i at l) ∙ z) in
+            (j, (pair_listed at j.xs j.mid j.first).0 ∙ ap (λ b. b && bytes_eq (field at 7 m) pair) (lt-ltb at upto before) ∙ sym is)
+
+        pub pairs_here : r ≡ true → ListsLeft → ListsPair upto pair (times (pair_at F m) n start) true
+        pairs_here h k = k true record {
+          found = λ ms e z.
+              let f = first_listed ms e z in
+              sym (ap (listed upto pair) f.0.both ∙ among_sooner (lists_pair upto pair) f.0.xs f.0.ys (f.1 ∙ h));
+        }
+
+        pub pairs_next : (next : ℕ) → r ≡ false → Ends (pair_at F m at) next → ListsLeft → (a : Bool) → ListsPair upto pair (times (pair_at F m) (n - (i + 1)) next) a → ListsPair upto pair (times (pair_at F m) n start) a
+        pairs_next next h ends k a rest = k a record {
+          found = λ ms e z.
+              let f = first_listed ms e z in
+              let j = f.0 in
+              rest.found j.ys e (ap (times (pair_at F m) (n - (i + 1))) (ends.end j.xs j.mid j.first) ∙ j.then)
+              ∙ sym (ap (listed upto pair) j.both ∙ among_later (lists_pair upto pair) j.xs j.ys (f.1 ∙ h));
+        }
 
     pub snapshot_listed : (k : ℕ) (r : Bool) → k ≡ count_in m 7 → ListsPair upto pair (times (pair_at F m) k 11) r → ListsPair upto pair (snapshot_of F m) r
     snapshot_listed k r k-is h = record { found = λ ms e j. h.found ms e (ap (λ n. times (pair_at F m) n 11) k-is ∙ snapshot_inv ms e j) }

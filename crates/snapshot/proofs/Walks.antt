@@ -1,23 +1,20 @@
 -- How walks join, and what the fields say of the scans.
-use Rattle.std.proofs.Common.{◌≡◌, ℕ, zero, suc, ◌+◌, ◌-◌, ◌<◌, ◌≤◌, Bool, true, false, cond, eqb, List, [], ◌∷◌, ◌++◌, length, Ok, Err, Option, Result, sym, refl, ap, ◌∙◌, subst, sub-one, arith}
-use Rattle.std.proofs.lemmas.Bool.{cond-true, cond-false}
+use Rattle.std.proofs.Common.{◌≡◌, ℕ, suc, ◌+◌, ◌-◌, ◌<◌, ◌≤◌, Bool, true, false, cond, List, [], ◌∷◌, ◌++◌, length, Ok, Err, Option, Result, sym, refl, ap, ◌∙◌, subst, arith}
 use Rattle.fields.specs.Values.{Pair, Price, Amount}
-use Rattle.fields.specs.declared.integers.Integer.{Integer}
 use Rattle.book.specs.Ladder.{OrderId}
 use Rattle.book.specs.declared.order.Side.{Side}
 use Rattle.book.specs.declared.order.Side.TheVariants.{Bid, Offer}
-use Rattle.readers.specs.Values.{pair_of, label_of, price_of, amount_of, integer_of}
+use Rattle.readers.specs.Values.{pair_of, label_of, amount_of}
 use Rattle.venue.specs.Form as venue
 use Rattle.message.specs.Reading.{Reading, value_at, tail_at, ◌▷◌}
 use Rattle.message.proofs.Readings.{value_read, tail_read}
 use Rattle.message.specs.declared.fault.MessageFault.{MessageFault}
-use Rattle.message.specs.declared.fault.MessageFault.TheVariants.{Miscounted}
 use Rattle.snapshot.specs.declared.mark.Mark.{Mark}
 use Rattle.snapshot.specs.declared.mark.Mark.TheVariants.{Lists, Puts}
 use Rattle.snapshot.specs.Scanning.{Scan, ◌▸◌, ◌⨟◌, field_at, tail_then, times}
-use Rattle.snapshot.specs.Snapshot.{whole_order, order_at, level_at, side_at, pair_at, pairs_from, snapshot_of}
+use Rattle.snapshot.specs.Snapshot.{whole_order, order_at, side_at, pair_at}
 use Rattle.snapshot.specs.Named.{named_at}
-use Rattle.snapshot.specs.Walked.{Runs, Walked, ends}
+use Rattle.snapshot.specs.Walked.{Runs, Walked}
 
 pub no : {X : Type 0} {A : Type 0} {v : A} {y : MessageFault} → ◌≡◌ {A = Result A MessageFault} (Ok v) (Err y) → X
 no h = let z : ◌≡◌ {A = ℕ} 0 1 = cc in absurd (omega arith)
@@ -30,6 +27,9 @@ module _ {S A : Type 0} (R : S → A → S → Type 0) where
   -- nothing but what is listed was done
   pub walked_ok : (xs : List A) (e : ℕ) (s u : S) → Runs R s xs u → Walked R (Ok (xs, e)) s (Ok e) u
   walked_ok xs e s u h = record { answer = refl; done = λ ms q k. let same : ◌≡◌ {A = List A × ℕ} (xs, e) (ms, q) = cc in subst (λ z. Runs R s z u) (ap (λ t. t.0) same) h }
+
+  pub walked_one : (x : A) (e : ℕ) (s u : S) → R s x u → Walked R (Ok (x ∷ [], e)) s (Ok e) u
+  walked_one x e s u h = walked_ok (x ∷ []) e s u (u, h, refl)
 
   pub walked_err : (y : MessageFault) (s u : S) → Walked R (Err y) s (Err y) u
   walked_err y s u = record { answer = refl; done = λ ms q k. no (sym k) }
@@ -61,31 +61,32 @@ module _ {S A : Type 0} (R : S → A → S → Type 0) where
   walked_stop (Ok v) f s t y u h = no (sym h.answer)
   walked_stop (Err w) f s t y u h = answered h.answer (walked_err w s u)
 
-  module _ (f : ℕ → Scan (List A)) where
-    pub times_none : (n at : ℕ) (s : S) → n ≡ 0 → Walked R (times f n at) s (Ok at) s
-    unfolding times
-    times_none n at s e = subst (λ k. Walked R (times f k at) s (Ok at) s) (sym e) (walked_ok [] at s s refl)
+  module _ (f : ℕ → Scan (List A)) (n start : ℕ) (first : S) where
+    -- of n turns of f, i are done: a walk over those left, from here, is a walk over all
+    pub record TurnsLeft (i at : ℕ) (s : S) : Type 0 where
+      pub over : (r : Result ℕ MessageFault) (u : S) → Walked R (times f (n - i) at) s r u → Walked R (times f n start) first r u
 
-    pub times_next : (n at : ℕ) (s t u : S) (e : ℕ) (r : Result ℕ MessageFault) → 0 < n → Walked R (f at) s (Ok e) t → Walked R (times f (n - 1) e) t r u → Walked R (times f n at) s r u
-    unfolding times
-    times_next zero at s t u e r h a b = absurd (omega arith)
-    times_next (suc n) at s t u e r h a b = walked_then (f at) (times f n) s t u e r a (rw sub-one at b)
+    pub turns_all : TurnsLeft 0 start first
+    turns_all = record { over = λ r u w. let z : n - 0 ≡ n = omega arith in subst (λ k. Walked R (times f k start) first r u) z w }
 
-    pub times_stop : (n at : ℕ) (s t : S) (y : MessageFault) (u : S) → 0 < n → Walked R (f at) s (Err y) t → Walked R (times f n at) s (Err y) u
-    unfolding times
-    times_stop zero at s t y u h a = absurd (omega arith)
-    times_stop (suc n) at s t y u h a = walked_stop (f at) (times f n) s t y u a
+    module _ (i at : ℕ) (s : S) (left : TurnsLeft i at s) where
+      pub turns_done : n ≤ i → Walked R (times f n start) first (Ok at) s
+      unfolding times
+      turns_done h = let z : n - i ≡ 0 = omega arith in left.over (Ok at) s (moved (ap (λ k. times f k at) z) (walked_ok [] at s s refl))
+
+      module _ (h : i < n) (t : S) where
+        one_more : times f (n - i) at ≡ (f at ⨟ times f (n - (i + 1)))
+        unfolding times
+        one_more = let z : n - i ≡ suc (n - (i + 1)) = omega arith in ap (λ k. times f k at) z
+
+        pub turns_next : (e : ℕ) → Walked R (f at) s (Ok e) t → TurnsLeft (i + 1) e t
+        turns_next e a = record { over = λ r u b. left.over r u (moved one_more (walked_then (f at) (times f (n - (i + 1))) s t u e r a b)) }
+
+        pub turns_stop : (y : MessageFault) (r : Result ℕ MessageFault) → Walked R (f at) s (Err y) t → r ≡ Err y → Walked R (times f n start) first r t
+        turns_stop y r a k = answered k (left.over (Err y) t (moved one_more (walked_stop (f at) (times f (n - (i + 1))) s t y t a)))
 
 -- the offset after a value
 module _ {A : Type 0} (m : List ℕ) (w : ℕ) (f : List ℕ → Option A) (p : ℕ) where
-  pub field_read : {v : A} → value_at m w f p ≡ Ok v → field_at m w f p ≡ Ok (v, p + w)
-  unfolding field_at
-  field_read h = rw h
-
-  pub field_fault : {y : MessageFault} → value_at m w f p ≡ Err y → field_at m w f p ≡ Err y
-  unfolding field_at
-  field_fault h = rw h
-
   -- what is read lies in the message
   pub record FieldScanned (v : A) (e : ℕ) : Type 0 where
     pub after : e ≡ p + w
@@ -105,14 +106,6 @@ module _ {A : Type 0} (m : List ℕ) (w : ℕ) (f : List ℕ → Option A) (p : 
           record { after = sym end; inside = subst (λ n. n ≤ length m) end within; value = k ∙ ap (λ t. Ok t.0) same }
 
 module _ {T : Type 0} (F : venue.Form T) (m : List ℕ) (p : ℕ) where
-  pub tail_after : {t : T} → tail_at F m p ≡ Ok t → tail_then F m p ≡ Ok (t, p + F.width)
-  unfolding tail_then
-  tail_after h = rw h
-
-  pub tail_fault : {y : MessageFault} → tail_at F m p ≡ Err y → tail_then F m p ≡ Err y
-  unfolding tail_then
-  tail_fault h = rw h
-
   pub record TailScanned (t : T) (e : ℕ) : Type 0 where
     pub after : e ≡ p + F.width
     pub inside : e ≤ length m
@@ -134,34 +127,6 @@ module _ {T : Type 0} (F : venue.Form T) (m : List ℕ) (p : ℕ) where
 module _ {T : Type 0} (F : venue.Form T) (m : List ℕ) where
   abbrev Marks : Type 0
   Marks = Scan (List (Mark T))
-
-  module _ (first : F.order_tail_first ≡ true) (p : ℕ) where
-    first_is : named_at F m p ≡ (tail_then F m p ▸ λ t q. field_at m 15 (label_of 15) q ▸ λ i e. Ok ((q, i, t), e))
-    unfolding named_at
-    first_is = cond-true F.order_tail_first _ _ first
-
-    pub first_unread : {y : MessageFault} → tail_then F m p ≡ Err y → named_at F m p ≡ Err y
-    first_unread a = first_is ∙ rw a
-
-    pub first_unnamed : {t : T} {q : ℕ} {y : MessageFault} → tail_then F m p ≡ Ok (t, q) → field_at m 15 (label_of 15) q ≡ Err y → named_at F m p ≡ Err y
-    first_unnamed a b = first_is ∙ rw (a, b)
-
-    pub first_named : {t : T} {q : ℕ} {i : OrderId} {e : ℕ} → tail_then F m p ≡ Ok (t, q) → field_at m 15 (label_of 15) q ≡ Ok (i, e) → named_at F m p ≡ Ok ((q, i, t), e)
-    first_named a b = first_is ∙ rw (a, b)
-
-  module _ (last : F.order_tail_first ≡ false) (p : ℕ) where
-    last_is : named_at F m p ≡ (field_at m 15 (label_of 15) p ▸ λ i q. tail_then F m q ▸ λ t e. Ok ((p, i, t), e))
-    unfolding named_at
-    last_is = cond-false F.order_tail_first _ _ last
-
-    pub last_unnamed : {y : MessageFault} → field_at m 15 (label_of 15) p ≡ Err y → named_at F m p ≡ Err y
-    last_unnamed a = last_is ∙ rw a
-
-    pub last_unread : {i : OrderId} {q : ℕ} {y : MessageFault} → field_at m 15 (label_of 15) p ≡ Ok (i, q) → tail_then F m q ≡ Err y → named_at F m p ≡ Err y
-    last_unread a b = last_is ∙ rw (a, b)
-
-    pub last_named : {t : T} {q : ℕ} {i : OrderId} {e : ℕ} → field_at m 15 (label_of 15) p ≡ Ok (i, q) → tail_then F m q ≡ Ok (t, e) → named_at F m p ≡ Ok ((p, i, t), e)
-    last_named a b = last_is ∙ rw (a, b)
 
   module _ (c : Pair) (s : Side) where
     -- an order is its amount, and then its id and terms
@@ -210,81 +175,6 @@ module _ {T : Type 0} (F : venue.Form T) (m : List ℕ) where
       pub order_unnamed : (p : ℕ) {a : Amount} {q : ℕ} {y : MessageFault} → field_at m 16 amount_of p ≡ Ok (a, q) → named_at F m q ≡ Err y → order_at F m c s v p ≡ Err y
       order_unnamed p a b = order_named p ∙ rw (a, b)
 
-    pub level_read : (p : ℕ) {v : Price} {q : ℕ} {k : Integer 4} {r : ℕ} → field_at m 10 price_of p ≡ Ok (v, q) → field_at m 4 (integer_of 4) q ≡ Ok (k, r) → eqb k.value 0 ≡ false → level_at F m c s p ≡ times (order_at F m c s v) k.value r
-    unfolding level_at
-    level_read p a b d = rw (a, b, d)
-
-    pub level_empty : (p : ℕ) {v : Price} {q : ℕ} {k : Integer 4} {r : ℕ} → field_at m 10 price_of p ≡ Ok (v, q) → field_at m 4 (integer_of 4) q ≡ Ok (k, r) → eqb k.value 0 ≡ true → level_at F m c s p ≡ Err (Miscounted q)
-    unfolding level_at
-    level_empty p a b d = rw (a, b, d)
-
-    pub level_unpriced : (p : ℕ) {y : MessageFault} → field_at m 10 price_of p ≡ Err y → level_at F m c s p ≡ Err y
-    unfolding level_at
-    level_unpriced p a = rw a
-
-    pub level_uncounted : (p : ℕ) {v : Price} {q : ℕ} {y : MessageFault} → field_at m 10 price_of p ≡ Ok (v, q) → field_at m 4 (integer_of 4) q ≡ Err y → level_at F m c s p ≡ Err y
-    unfolding level_at
-    level_uncounted p a b = rw (a, b)
-
-    pub side_read : (p : ℕ) {k : Integer 4} {q : ℕ} → field_at m 4 (integer_of 4) p ≡ Ok (k, q) → side_at F m c s p ≡ times (level_at F m c s) k.value q
-    unfolding side_at
-    side_read p a = rw a
-
-    pub side_fault : (p : ℕ) {y : MessageFault} → field_at m 4 (integer_of 4) p ≡ Err y → side_at F m c s p ≡ Err y
-    unfolding side_at
-    side_fault p a = rw a
-
   pub pair_read : (p : ℕ) {c : Pair} {q : ℕ} → field_at m 7 pair_of p ≡ Ok (c, q) → pair_at F m p ≡ (Ok (Lists p c ∷ [], q) ⨟ λ u. side_at F m c Bid u ⨟ λ r. side_at F m c Offer r)
   unfolding pair_at
   pair_read p a = rw a
-
-  pub pair_fault : (p : ℕ) {y : MessageFault} → field_at m 7 pair_of p ≡ Err y → pair_at F m p ≡ Err y
-  unfolding pair_at
-  pair_fault p a = rw a
-
-  pub pairs_read : (p : ℕ) {k : Integer 4} {q : ℕ} → field_at m 4 (integer_of 4) p ≡ Ok (k, q) → pairs_from F m p ≡ times (pair_at F m) k.value q
-  unfolding pairs_from
-  pairs_read p a = rw a
-
-  pub pairs_fault : (p : ℕ) {y : MessageFault} → field_at m 4 (integer_of 4) p ≡ Err y → pairs_from F m p ≡ Err y
-  unfolding pairs_from
-  pairs_fault p a = rw a
-
-  -- behind the byte count
-  module _ {k : Integer 6} {p : ℕ} (sized : field_at m 6 (integer_of 6) 1 ≡ Ok (k, p)) where
-    pub size_wrong : eqb k.value (length m - p) ≡ false → snapshot_of F m ≡ Err (Miscounted 1)
-    unfolding snapshot_of
-    size_wrong d = rw (sized, d)
-
-    module _ (right : eqb k.value (length m - p) ≡ true) where
-      abbrev Closed : Marks → Marks
-      Closed x = x ▸ λ ms e. cond (eqb e (length m)) (Ok (ms, e)) (Err (Miscounted e))
-
-      size_right : snapshot_of F m ≡ Closed (pairs_from F m p)
-      unfolding snapshot_of
-      size_right = rw (sized, right)
-
-      pub snapshot_stop : {y : MessageFault} → ends (pairs_from F m p) ≡ Err y → snapshot_of F m ≡ Err y
-      snapshot_stop {y} b = size_right ∙ by (pairs_from F m p) b
-        where
-          by : (x : Marks) → ends x ≡ Err y → Closed x ≡ Err y
-          by (Ok v) h = no h
-          by (Err w) h = let z : w ≡ y = cc in ap Err z
-
-      pub snapshot_left : {e : ℕ} → ends (pairs_from F m p) ≡ Ok e → eqb e (length m) ≡ false → snapshot_of F m ≡ Err (Miscounted e)
-      snapshot_left {e} b d = size_right ∙ by (pairs_from F m p) b
-        where
-          by : (x : Marks) → ends x ≡ Ok e → Closed x ≡ Err (Miscounted e)
-          by (Ok v) h = let z : v.1 ≡ e = cc in ap (λ n. cond (eqb n (length m)) (Ok (v.0, n)) (Err (Miscounted n))) z ∙ ap (λ b. cond b (Ok (v.0, e)) (Err (Miscounted e))) d
-          by (Err w) h = no (sym h)
-
-      pub snapshot_whole : {e : ℕ} → ends (pairs_from F m p) ≡ Ok e → eqb e (length m) ≡ true → snapshot_of F m ≡ pairs_from F m p
-      snapshot_whole {e} b d = size_right ∙ by (pairs_from F m p) b
-        where
-          by : (x : Marks) → ends x ≡ Ok e → Closed x ≡ x
-          by (Ok v) h = let z : v.1 ≡ e = cc in ap (λ b. cond b (Ok (v.0, v.1)) (Err (Miscounted v.1))) (ap (λ n. eqb n (length m)) z ∙ d)
-          by (Err w) h = no (sym h)
-
-  pub size_fault : {y : MessageFault} → field_at m 6 (integer_of 6) 1 ≡ Err y → snapshot_of F m ≡ Err y
-  unfolding snapshot_of
-  size_fault a = rw a

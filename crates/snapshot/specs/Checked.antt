@@ -47,14 +47,14 @@ module _ {T : Type 0} (F : venue.Form T) (m : List ℕ) where
   pub record PairSeen (s : Seen) (p : ℕ) (c : Pair) (t : Seen) : Type 0 where
     pub first : PairNoted s.first p c.bytes t.first
     pub start : Adds m p 7 t.start
-    pub pairs : Adds m s.pairs 1 t.pairs
-    pub orders : t.orders ≡ s.orders
+    pub pairs : Adds m s.counts.pairs 1 t.counts.pairs
+    pub orders : t.counts.orders ≡ s.counts.orders
 
   pub record OrderSeen (s : Seen) (p : ℕ) (o : Order T) (t : Seen) : Type 0 where
     pub first : IdNoted s.first s.start p o.id.bytes t.first
     pub start : t.start ≡ s.start
-    pub pairs : t.pairs ≡ s.pairs
-    pub orders : Adds m s.orders 1 t.orders
+    pub pairs : t.counts.pairs ≡ s.counts.pairs
+    pub orders : Adds m s.counts.orders 1 t.counts.orders
 
   abbrev pub MarkSeen : Seen → Mark T → Seen → Type 0
   MarkSeen s (Lists p c) t = PairSeen s p c t

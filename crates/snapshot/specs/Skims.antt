@@ -1,5 +1,8 @@
 -- Look-ups in the bytes of a snapshot: what is asked of them.
-use Rattle.std.specs.Prelude.{◌≡◌, ℕ, zero, suc, ◌+◌, ◌≤◌, Bool, true, false, cond, ◌&&◌, ◌||◌, List, [], ◌∷◌, Ok, Err, nat_lt}
+use Rattle.std.specs.Prelude.{◌≡◌, ℕ, zero, suc, ◌+◌, ◌≤◌, Bool, true, false, cond, ◌&&◌, ◌||◌, List, Ok, Err, nat_lt}
+use Rattle.std.specs.declared.ops.ControlFlow.{ControlFlow}
+use Rattle.std.specs.declared.ops.ControlFlow.TheVariants.{Continue, Break}
+use Rattle.std.specs.List.{list_any}
 use Rattle.std.specs.Str.{bytes_eq}
 use Rattle.fields.specs.Values.{Pair}
 use Rattle.fields.specs.declared.integers.Integer.{Integer}
@@ -9,17 +12,10 @@ use Rattle.venue.specs.Form as venue
 use Rattle.message.specs.Reading.{Reading, field, value_at}
 use Rattle.snapshot.specs.declared.mark.Mark.{Mark}
 use Rattle.snapshot.specs.declared.mark.Mark.TheVariants.{Lists, Puts}
-use Rattle.snapshot.specs.declared.skim.Skim.{Skim}
-use Rattle.snapshot.specs.declared.skim.Skim.TheVariants.{Met, Past, Next}
 use Rattle.snapshot.specs.Scanning.{Scan, ◌⨟◌}
 use Rattle.snapshot.specs.Snapshot.{side_at}
 
 module _ {T : Type 0} where
-  -- one of these passes
-  abbrev pub among : (Mark T → Bool) → List (Mark T) → Bool
-  among t [] = false
-  among t (x ∷ xs) = t x || among t xs
-
   -- an order of this id, that stands before an offset
   abbrev pub puts_id : ℕ → List ℕ → Mark T → Bool
   puts_id upto id (Lists q c) = false
@@ -32,21 +28,21 @@ module _ {T : Type 0} where
 
   -- an order of this id is put before an offset
   abbrev pub met : ℕ → List ℕ → List (Mark T) → Bool
-  met upto id ms = among (puts_id upto id) ms
+  met upto id ms = list_any (puts_id upto id) ms
 
   -- this pair is listed before an offset
   abbrev pub listed : ℕ → List ℕ → List (Mark T) → Bool
-  listed upto pair ms = among (lists_pair upto pair) ms
+  listed upto pair ms = list_any (lists_pair upto pair) ms
 
   -- what is said of marks that end at e: the id was met; it was not, and they end past the offset; it was not, and where they end
-  abbrev pub Says : ℕ → List ℕ → List (Mark T) → ℕ → Skim → Type 0
-  Says upto id ms e Met = met upto id ms ≡ true
-  Says upto id ms e Past = (met upto id ms ≡ false) × (upto ≤ e)
-  Says upto id ms e (Next q) = (met upto id ms ≡ false) × (q ≡ e)
+  abbrev pub Says : ℕ → List ℕ → List (Mark T) → ℕ → ControlFlow Bool ℕ → Type 0
+  Says upto id ms e (Break true) = met upto id ms ≡ true
+  Says upto id ms e (Break false) = (met upto id ms ≡ false) × (upto ≤ e)
+  Says upto id ms e (Continue q) = (met upto id ms ≡ false) × (q ≡ e)
 
   -- Said of what a scan lists, where it ends without fault.
   -- the answer is so
-  pub record Skims (upto : ℕ) (id : List ℕ) (x : Scan (List (Mark T))) (r : Skim) : Type 0 where
+  pub record Skims (upto : ℕ) (id : List ℕ) (x : Scan (List (Mark T))) (r : ControlFlow Bool ℕ) : Type 0 where
     pub says : (ms : List (Mark T)) (e : ℕ) → x ≡ Ok (ms, e) → Says upto id ms e r
 
   -- it ends here

@@ -1,19 +1,20 @@
 // A snapshot message is checked whole, repeats included.
-ghost use Rattle.std.specs.Prelude.{◌≡◌};
-ghost use Rattle.snapshot.specs.Checked.{checked, told, onward, Adds, PairNoted, IdNoted, PairSeen, OrderSeen, MarkSeen};
+ghost use Rattle.std.specs.Prelude.{◌≡◌, None};
+ghost use Rattle.snapshot.specs.Checked.{checked, told, PairNoted, IdNoted, PairSeen, OrderSeen, MarkSeen};
 ghost use Rattle.snapshot.specs.Snapshot.{snapshot_of};
 
 use crate::mark::Mark;
-use crate::skim::{id_met, pair_met};
+use crate::skim::{Sought, after, pair_met};
 use crate::task::Task;
 use crate::walk::visit_marks;
 use book::Order;
 use fields::{OrderId, Pair};
 use message::MessageFault;
+use std::marker::PhantomData;
 use venue::Venue;
 
 // How many pairs a snapshot lists, and how many orders it puts.
-#[derive(Clone, Copy)]
+#[derive(Clone, Copy, PartialEq, Eq, Debug)]
 pub struct Counts {
     pub pairs: usize,
     pub orders: usize,
@@ -24,66 +25,41 @@ pub struct Counts {
 pub(crate) struct Seen {
     start: usize,
     first: Option<usize>,
-    pairs: usize,
-    orders: usize,
+    counts: Counts,
 }
 
-// The check of each mark, at a venue of which there is no value.
-#[derive(Drop)]
-struct Checking<V> {
-    venue: V,
-}
+// The check of each mark, at a venue.
+struct Checking<V>(PhantomData<V>);
 
-fn grown(m: &[u8], n: usize, k: usize) -> usize
-    ensures { Adds m.now n k result }
+// The repeat at the pair at `at`, if it is one.
+fn pair_repeat<V: Venue>(m: &[u8], at: usize, pair: &Pair) -> Option<usize>
+    ensures { PairNoted V.form m.now None at pair.now.bytes result }
 {
-    n.saturating_add(k)
+    pair_met::<V>(m, at, &pair.bytes()).then_some(at)
 }
 
-// The first repeat, once the mark at `at` is seen to be one or not.
-fn noted(first: Option<usize>, at: usize, repeated: bool) -> Option<usize>
-    ensures { result ≡ onward first at repeated }
+// The repeat at the id at `at`, if it is one, in the pair whose bids begin at `start`.
+fn id_repeat<V: Venue>(m: &[u8], start: usize, at: usize, id: &OrderId) -> Option<usize>
+    ensures { IdNoted V.form m.now None start at id.now.bytes result }
 {
-    match first {
-        Some(p) => Some(p),
-        None => { if repeated { Some(at) } else { None } }
-    }
-}
-
-// The first repeat, once the pair at `at` is seen.
-fn pair_noted<V: Venue>(m: &[u8], first: Option<usize>, at: usize, pair: &Pair) -> Option<usize>
-    ensures { PairNoted V.form m.now first at pair.now.bytes result }
-{
-    if first.is_some() {
-        return first;
-    }
-    noted(first, at, pair_met::<V>(m, at, &pair.bytes()))
-}
-
-// The first repeat, once the id at `at` is seen, in the pair whose bids begin at `start`.
-fn id_noted<V: Venue>(
-    m: &[u8],
-    first: Option<usize>,
-    start: usize,
-    at: usize,
-    id: &OrderId,
-) -> Option<usize>
-    ensures { IdNoted V.form m.now first start at id.now.bytes result }
-{
-    if first.is_some() {
-        return first;
-    }
-    noted(first, at, id_met::<V>(m, start, at, &id.bytes()))
+    let sought = Sought {
+        m,
+        upto: at,
+        id: &id.bytes(),
+    };
+    sought.is_put::<V>(start).then_some(at)
 }
 
 fn pair_seen<V: Venue>(m: &[u8], seen: Seen, at: usize, pair: &Pair) -> Seen
     ensures { PairSeen V.form m.now seen at pair.now result }
 {
     Seen {
-        start: grown(m, at, 7),
-        first: pair_noted::<V>(m, seen.first, at, pair),
-        pairs: grown(m, seen.pairs, 1),
-        orders: seen.orders,
+        start: after(m, at, 7),
+        first: seen.first.or_else(|| pair_repeat::<V>(m, at, pair)),
+        counts: Counts {
+            pairs: after(m, seen.counts.pairs, 1),
+            ..seen.counts
+        },
     }
 }
 
@@ -91,10 +67,14 @@ fn order_seen<V: Venue>(m: &[u8], seen: Seen, at: usize, order: &Order<V::Terms>
     ensures { OrderSeen V.form m.now seen at order.now result }
 {
     Seen {
-        start: seen.start,
-        first: id_noted::<V>(m, seen.first, seen.start, at, &order.id),
-        pairs: seen.pairs,
-        orders: grown(m, seen.orders, 1),
+        first: seen
+            .first
+            .or_else(|| id_repeat::<V>(m, seen.start, at, &order.id)),
+        counts: Counts {
+            orders: after(m, seen.counts.orders, 1),
+            ..seen.counts
+        },
+        ..seen
     }
 }
 
@@ -111,14 +91,11 @@ impl<V: Venue> Task<V::Terms, Seen> for Checking<V> {
 
 // The counts, unless there was a repeat.
 fn outcome(seen: Seen) -> Result<Counts, MessageFault>
-    ensures { result ≡ told seen.first (record { pairs = seen.pairs; orders = seen.orders }) }
+    ensures { result ≡ told seen.first seen.counts }
 {
     match seen.first {
         Some(at) => Err(MessageFault::Repeated(at)),
-        None => Ok(Counts {
-            pairs: seen.pairs,
-            orders: seen.orders,
-        }),
+        None => Ok(seen.counts),
     }
 }
 
@@ -130,8 +107,10 @@ pub fn check<V: Venue>(m: &[u8]) -> Result<Counts, MessageFault>
     let mut seen = Seen {
         start: 0,
         first: None,
-        pairs: 0,
-        orders: 0,
+        counts: Counts {
+            pairs: 0,
+            orders: 0,
+        },
     };
     visit_marks::<V, Seen, Checking<V>>(m, &mut seen)?;
     outcome(seen)

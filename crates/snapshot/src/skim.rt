@@ -1,6 +1,6 @@
 // Look-ups that skip over the bytes of a snapshot. They read its counts, compare bytes at a stride, and stop at the offset up to
 // which they are asked.
-ghost use Rattle.std.specs.Prelude.{◌≡◌, ◌+◌, ◌<◌, ◌≤◌, length, Decides};
+ghost use Rattle.std.specs.Prelude.{◌≡◌, ◌+◌, ◌*◌, ◌<◌, ◌≤◌, length, Decides};
 ghost use Rattle.message.specs.Reading.{field};
 ghost use Rattle.fields.specs.Values.{Pair};
 ghost use Rattle.book.specs.declared.order.Side.{Side};
@@ -10,30 +10,23 @@ ghost use Rattle.snapshot.specs.Snapshot.{level_at, side_at, pair_at, snapshot_o
 
 use fields::Integer;
 use readers::Field;
+use std::ops::ControlFlow;
 use venue::Venue;
 
-// Of a look-up of an id: it was met; it was not, up to the offset asked; it was not, and what comes next is here.
+// An id that is looked for in a message, up to an offset. A look-up breaks off once it is decided whether the id was met, and else
+// goes on from where it ends.
 #[derive(Clone, Copy)]
-pub(crate) enum Skim {
-    Met,
-    Past,
-    Next(usize),
-}
-
-fn same(a: &[u8], b: &[u8]) -> bool
-    ensures { Decides result (a.now ≡ b.now) }
-{
-    a == b
+pub(crate) struct Sought<'a> {
+    pub m: &'a [u8],
+    pub upto: usize,
+    pub id: &'a [u8; 15],
 }
 
 // Whether these bytes stand at `at`.
 fn same_at(m: &[u8], at: usize, bytes: &[u8]) -> bool
     ensures { Decides result ((at + length bytes.now ≤ length m.now) × (field at (length bytes.now) m.now ≡ bytes.now)) }
 {
-    if at > m.len() || bytes.len() > m.len() - at {
-        return false;
-    }
-    same(&m[at..at + bytes.len()], bytes)
+    m.get(at..).is_some_and(|rest| rest.starts_with(bytes))
 }
 
 // The offset of the id in an order.
@@ -55,7 +48,7 @@ fn order_size<V: Venue>() -> usize
 }
 
 // The offset `k` bytes after `at`, where the message has that many.
-fn after(m: &[u8], at: usize, k: usize) -> usize
+pub(crate) fn after(m: &[u8], at: usize, k: usize) -> usize
     ensures { at + k ≤ length m.now → result ≡ at + k }
 {
     at.saturating_add(k)
@@ -66,84 +59,31 @@ fn count_at(m: &[u8], at: usize) -> usize
     ensures read { result ≡ count_in m.now at }
     ensures small { result < 10000 }
 {
-    match message::value::<Integer<4>>(m, at) {
-        Ok(count) => count.value() as usize,
-        Err(_) => 0,
-    }
+    message::value::<Integer<4>>(m, at).map_or(0, |count| count.value() as usize)
 }
 
-// Whether one of `n` ids from `at`, each `step` bytes after the last, stands before `upto` and is this one.
-fn ids_met(m: &[u8], mut at: usize, mut n: usize, step: usize, upto: usize, id: &[u8; 15]) -> bool
-    ensures { result ≡ strided m.now upto id.now step n at }
+// How many orders the level at `at` has.
+fn level_count(m: &[u8], at: usize) -> usize
+    ensures read { at + 10 ≤ length m.now → result ≡ count_in m.now (at + 10) }
+    ensures small { result < 10000 }
 {
-    while n > 0 && at < upto {
-        if same_at(m, at, id) {
-            return true;
-        }
-        at = at.saturating_add(step);
-        n -= 1;
-    }
-    false
+    count_at(m, after(m, at, 10))
 }
 
-// The id in `n` levels from `at`.
-fn levels_skim<V: Venue>(m: &[u8], mut at: usize, mut n: usize, upto: usize, id: &[u8; 15]) -> Skim
-    ensures { (c : Pair) (s : Side) → Skims upto id.now (times (level_at V.form m.now c s) n at) result }
+// Where a level at `at` of `count` orders ends.
+fn level_end<V: Venue>(m: &[u8], at: usize, count: usize) -> usize
+    requires { count < 10000 }
+    ensures { at + (14 + count * order_width V.form) ≤ length m.now → result ≡ at + (14 + count * order_width V.form) }
 {
-    let place = id_place::<V>();
-    let size = order_size::<V>();
-    while n > 0 {
-        if at >= upto {
-            return Skim::Past;
-        }
-        let count = count_at(m, after(m, at, 10));
-        if ids_met(m, after(m, at, 14 + place), count, size, upto, id) {
-            return Skim::Met;
-        }
-        at = after(m, at, 14 + count * size);
-        n -= 1;
-    }
-    Skim::Next(at)
-}
-
-// The id in the side at `at`.
-fn side_skim<V: Venue>(m: &[u8], at: usize, upto: usize, id: &[u8; 15]) -> Skim
-    ensures { (c : Pair) (s : Side) → Skims upto id.now (side_at V.form m.now c s at) result }
-{
-    levels_skim::<V>(m, after(m, at, 4), count_at(m, at), upto, id)
-}
-
-// Whether the side at `at` puts the id before `upto`.
-fn side_met<V: Venue>(m: &[u8], at: usize, upto: usize, id: &[u8; 15]) -> bool
-    ensures { (c : Pair) (s : Side) → PutsId upto id.now (side_at V.form m.now c s at) result }
-{
-    match side_skim::<V>(m, at, upto, id) {
-        Skim::Met => true,
-        Skim::Past => false,
-        Skim::Next(_) => false,
-    }
-}
-
-// Whether the pair whose bids begin at `from` puts the id before `upto`.
-pub(crate) fn id_met<V: Venue>(m: &[u8], from: usize, upto: usize, id: &[u8; 15]) -> bool
-    ensures { (c : Pair) → PutsId upto id.now (sides_at V.form m.now c from) result }
-{
-    match side_skim::<V>(m, from, upto, id) {
-        Skim::Met => true,
-        Skim::Past => false,
-        Skim::Next(at) => side_met::<V>(m, at, upto, id),
-    }
+    after(m, at, 14 + count * order_size::<V>())
 }
 
 // Where `n` levels from `at` end.
-fn levels_end<V: Venue>(m: &[u8], mut at: usize, mut n: usize) -> usize
+fn levels_end<V: Venue>(m: &[u8], mut at: usize, n: usize) -> usize
     ensures { (c : Pair) (s : Side) → Ends (times (level_at V.form m.now c s) n at) result }
 {
-    let size = order_size::<V>();
-    while n > 0 {
-        let count = count_at(m, after(m, at, 10));
-        at = after(m, at, 14 + count * size);
-        n -= 1;
+    for _ in 0..n {
+        at = level_end::<V>(m, at, level_count(m, at));
     }
     at
 }
@@ -163,23 +103,86 @@ fn pair_end<V: Venue>(m: &[u8], at: usize) -> usize
     side_end::<V>(m, offers)
 }
 
-// Whether one of `n` pairs from `at` stands before `upto` and is this one.
-fn pairs_met<V: Venue>(m: &[u8], mut at: usize, mut n: usize, upto: usize, pair: &[u8; 7]) -> bool
-    ensures { ListsPair upto pair.now (times (pair_at V.form m.now) n at) result }
-{
-    while n > 0 && at < upto {
-        if same_at(m, at, pair) {
-            return true;
-        }
-        at = pair_end::<V>(m, at);
-        n -= 1;
-    }
-    false
-}
-
 // Whether the snapshot lists the pair before `upto`.
 pub(crate) fn pair_met<V: Venue>(m: &[u8], upto: usize, pair: &[u8; 7]) -> bool
     ensures { ListsPair upto pair.now (snapshot_of V.form m.now) result }
 {
-    pairs_met::<V>(m, 11, count_at(m, 7), upto, pair)
+    let n = count_at(m, 7);
+    let mut at = 11;
+    for _ in 0..n {
+        if at >= upto {
+            return false;
+        }
+        if same_at(m, at, pair) {
+            return true;
+        }
+        at = pair_end::<V>(m, at);
+    }
+    false
+}
+
+impl Sought<'_> {
+    // Whether one of `n` ids from `at`, each `step` bytes after the last, stands before the offset and is this one.
+    fn met(&self, mut at: usize, n: usize, step: usize) -> bool
+        ensures { result ≡ strided self.now.m.now self.now.upto self.now.id.now step n at }
+    {
+        let id = self.id;
+        for _ in 0..n {
+            if at >= self.upto {
+                return false;
+            }
+            if same_at(self.m, at, id) {
+                return true;
+            }
+            at = at.saturating_add(step);
+        }
+        false
+    }
+
+    // Over the level at `at`.
+    fn level<V: Venue>(&self, at: usize) -> ControlFlow<bool, usize>
+        ensures { (c : Pair) (s : Side) → Skims self.now.upto self.now.id.now (level_at V.form self.now.m.now c s at) result }
+    {
+        if at >= self.upto {
+            return ControlFlow::Break(false);
+        }
+        let count = level_count(self.m, at);
+        let ids = after(self.m, at, 14 + id_place::<V>());
+        if self.met(ids, count, order_size::<V>()) {
+            return ControlFlow::Break(true);
+        }
+        ControlFlow::Continue(level_end::<V>(self.m, at, count))
+    }
+
+    // Over `n` levels from `at`.
+    fn levels<V: Venue>(&self, mut at: usize, n: usize) -> ControlFlow<bool, usize>
+        ensures { (c : Pair) (s : Side) → Skims self.now.upto self.now.id.now (times (level_at V.form self.now.m.now c s) n at) result }
+    {
+        for _ in 0..n {
+            at = self.level::<V>(at)?;
+        }
+        ControlFlow::Continue(at)
+    }
+
+    // Over the side at `at`.
+    fn side<V: Venue>(&self, at: usize) -> ControlFlow<bool, usize>
+        ensures { (c : Pair) (s : Side) → Skims self.now.upto self.now.id.now (side_at V.form self.now.m.now c s at) result }
+    {
+        self.levels::<V>(after(self.m, at, 4), count_at(self.m, at))
+    }
+
+    // Over the bids at `at` and the offers behind them.
+    fn sides<V: Venue>(&self, at: usize) -> ControlFlow<bool, usize>
+        ensures { (c : Pair) → Skims self.now.upto self.now.id.now (sides_at V.form self.now.m.now c at) result }
+    {
+        let offers = self.side::<V>(at)?;
+        self.side::<V>(offers)
+    }
+
+    // Whether the pair whose bids begin at `at` puts the id before the offset.
+    pub fn is_put<V: Venue>(&self, at: usize) -> bool
+        ensures { (c : Pair) → PutsId self.now.upto self.now.id.now (sides_at V.form self.now.m.now c at) result }
+    {
+        self.sides::<V>(at).break_value().unwrap_or(false)
+    }
 }

@@ -13,7 +13,8 @@ use message::MessageFault;
 use readers::Field;
 use venue::Venue;
 
-// The value at `at`, and the offset after it.
+// The value at `at`, and the offset after it. An offset and no slice is answered: results are compared as values, which slices are not.
+#[tactic(auto, unfolding(crate::specs::Scanning::field_at), using(message::proofs::Readings::value_read))]
 fn next<F: Field>(m: &[u8], at: usize) -> Result<(F, usize), MessageFault>
     ensures { result ≡ field_at m.now F.WIDTH F.reads at }
 {
@@ -22,6 +23,7 @@ fn next<F: Field>(m: &[u8], at: usize) -> Result<(F, usize), MessageFault>
 }
 
 // The terms at `at`, and the offset after them.
+#[tactic(auto, unfolding(crate::specs::Scanning::tail_then), using(message::proofs::Readings::tail_read))]
 fn next_tail<V: Venue>(m: &[u8], at: usize) -> Result<(V::Terms, usize), MessageFault>
     ensures { result ≡ tail_then V.form m.now at }
 {
@@ -30,6 +32,7 @@ fn next_tail<V: Venue>(m: &[u8], at: usize) -> Result<(V::Terms, usize), Message
 }
 
 // The id and the terms at `at`, in the venue's order, with the offset of the id; and the offset after them.
+#[tactic(auto, unfolding(crate::specs::Named::named_at))]
 fn named<V: Venue>(m: &[u8], at: usize) -> Result<((usize, OrderId, V::Terms), usize), MessageFault>
     ensures { result ≡ named_at V.form m.now at }
 {
@@ -43,26 +46,40 @@ fn named<V: Venue>(m: &[u8], at: usize) -> Result<((usize, OrderId, V::Terms), u
     Ok(((at, id, terms), end))
 }
 
+// One side of a pair: what its prices share.
+#[derive(Clone, Copy)]
+struct BookSide {
+    pair: Pair,
+    side: Side,
+}
+
+// One price of a side: what its orders share.
+#[derive(Clone, Copy)]
+struct PriceLevel {
+    pair: Pair,
+    side: Side,
+    price: Price,
+}
+
 // The order at `at`: the offset after it.
+#[tactic(auto, using(crate::proofs::Walks::walked_one, crate::proofs::Walks::walked_err, crate::proofs::Walks::order_read, crate::proofs::Walks::order_unsized, crate::proofs::Walks::order_unnamed))]
 fn order<V: Venue, S, K: Task<V::Terms, S>>(
     m: &[u8],
     state: &mut S,
     at: usize,
-    pair: Pair,
-    side: Side,
-    price: Price,
+    level: &PriceLevel,
 ) -> Result<usize, MessageFault>
-    ensures { Walked (K.steps m.now) (order_at V.form m.now pair side price at) state.old result state.new }
+    ensures { Walked (K.steps m.now) (order_at V.form m.now level.now.pair level.now.side level.now.price at) state.old result state.new }
 {
     let (amount, name_at) = next::<Amount>(m, at)?;
     let ((id_at, id, terms), end) = named::<V>(m, name_at)?;
     let mark = Mark::Puts(
         id_at,
         Order {
-            pair,
-            side,
+            pair: level.pair,
+            side: level.side,
             id,
-            price,
+            price: level.price,
             amount,
             terms,
         },
@@ -72,33 +89,31 @@ fn order<V: Venue, S, K: Task<V::Terms, S>>(
 }
 
 // `n` orders from `at`.
+#[tactic(auto, using(crate::proofs::Walks::turns_all, crate::proofs::Walks::turns_next, crate::proofs::Walks::turns_stop, crate::proofs::Walks::turns_done))]
 fn orders<V: Venue, S, K: Task<V::Terms, S>>(
     m: &[u8],
     state: &mut S,
     mut at: usize,
-    mut n: u64,
-    pair: Pair,
-    side: Side,
-    price: Price,
+    n: u64,
+    level: &PriceLevel,
 ) -> Result<usize, MessageFault>
-    ensures { Walked (K.steps m.now) (times (order_at V.form m.now pair side price) n at) state.old result state.new }
+    ensures { Walked (K.steps m.now) (times (order_at V.form m.now level.now.pair level.now.side level.now.price) n at) state.old result state.new }
 {
-    while n > 0 {
-        at = order::<V, S, K>(m, state, at, pair, side, price)?;
-        n -= 1;
+    for _ in 0..n {
+        at = order::<V, S, K>(m, state, at, level)?;
     }
     Ok(at)
 }
 
 // The price at `at`, the number of its orders, and the orders.
+#[tactic(auto, unfolding(crate::specs::Snapshot::level_at), using(crate::proofs::Walks::walked_err))]
 fn level<V: Venue, S, K: Task<V::Terms, S>>(
     m: &[u8],
     state: &mut S,
     at: usize,
-    pair: Pair,
-    side: Side,
+    of: &BookSide,
 ) -> Result<usize, MessageFault>
-    ensures { Walked (K.steps m.now) (level_at V.form m.now pair side at) state.old result state.new }
+    ensures { Walked (K.steps m.now) (level_at V.form m.now of.now.pair of.now.side at) state.old result state.new }
 {
     let (price, count_at) = next::<Price>(m, at)?;
     let (count, orders_at) = next::<Integer<4>>(m, count_at)?;
@@ -106,42 +121,47 @@ fn level<V: Venue, S, K: Task<V::Terms, S>>(
     if n == 0 {
         return Err(MessageFault::Miscounted(count_at));
     }
-    orders::<V, S, K>(m, state, orders_at, n, pair, side, price)
+    let level = PriceLevel {
+        pair: of.pair,
+        side: of.side,
+        price,
+    };
+    orders::<V, S, K>(m, state, orders_at, n, &level)
 }
 
 // `n` prices from `at`.
+#[tactic(auto, using(crate::proofs::Walks::turns_all, crate::proofs::Walks::turns_next, crate::proofs::Walks::turns_stop, crate::proofs::Walks::turns_done))]
 fn levels<V: Venue, S, K: Task<V::Terms, S>>(
     m: &[u8],
     state: &mut S,
     mut at: usize,
-    mut n: u64,
-    pair: Pair,
-    side: Side,
+    n: u64,
+    of: &BookSide,
 ) -> Result<usize, MessageFault>
-    ensures { Walked (K.steps m.now) (times (level_at V.form m.now pair side) n at) state.old result state.new }
+    ensures { Walked (K.steps m.now) (times (level_at V.form m.now of.now.pair of.now.side) n at) state.old result state.new }
 {
-    while n > 0 {
-        at = level::<V, S, K>(m, state, at, pair, side)?;
-        n -= 1;
+    for _ in 0..n {
+        at = level::<V, S, K>(m, state, at, of)?;
     }
     Ok(at)
 }
 
 // The number of prices at `at`, and the prices.
+#[tactic(auto, unfolding(crate::specs::Snapshot::side_at), using(crate::proofs::Walks::walked_err))]
 fn side_of<V: Venue, S, K: Task<V::Terms, S>>(
     m: &[u8],
     state: &mut S,
     at: usize,
-    pair: Pair,
-    side: Side,
+    of: &BookSide,
 ) -> Result<usize, MessageFault>
-    ensures { Walked (K.steps m.now) (side_at V.form m.now pair side at) state.old result state.new }
+    ensures { Walked (K.steps m.now) (side_at V.form m.now of.now.pair of.now.side at) state.old result state.new }
 {
     let (count, levels_at) = next::<Integer<4>>(m, at)?;
-    levels::<V, S, K>(m, state, levels_at, count.value(), pair, side)
+    levels::<V, S, K>(m, state, levels_at, count.value(), of)
 }
 
 // The pair at `at`, its bids and its offers.
+#[tactic(auto, unfolding(crate::specs::Snapshot::pair_at), using(crate::proofs::Walks::walked_err, crate::proofs::Walks::walked_ok, crate::proofs::Walks::walked_then, crate::proofs::Walks::walked_stop))]
 fn pair_of<V: Venue, S, K: Task<V::Terms, S>>(
     m: &[u8],
     state: &mut S,
@@ -152,27 +172,36 @@ fn pair_of<V: Venue, S, K: Task<V::Terms, S>>(
     let (pair, bids_at) = next::<Pair>(m, at)?;
     let mark = Mark::Lists(at, pair);
     K::visit(m, state, &mark);
-    let offers_at = side_of::<V, S, K>(m, state, bids_at, pair, Side::Bid)?;
-    side_of::<V, S, K>(m, state, offers_at, pair, Side::Offer)
+    let bids = BookSide {
+        pair,
+        side: Side::Bid,
+    };
+    let offers = BookSide {
+        pair,
+        side: Side::Offer,
+    };
+    let offers_at = side_of::<V, S, K>(m, state, bids_at, &bids)?;
+    side_of::<V, S, K>(m, state, offers_at, &offers)
 }
 
 // `n` pairs from `at`.
+#[tactic(auto, using(crate::proofs::Walks::turns_all, crate::proofs::Walks::turns_next, crate::proofs::Walks::turns_stop, crate::proofs::Walks::turns_done))]
 fn pairs<V: Venue, S, K: Task<V::Terms, S>>(
     m: &[u8],
     state: &mut S,
     mut at: usize,
-    mut n: u64,
+    n: u64,
 ) -> Result<usize, MessageFault>
     ensures { Walked (K.steps m.now) (times (pair_at V.form m.now) n at) state.old result state.new }
 {
-    while n > 0 {
+    for _ in 0..n {
         at = pair_of::<V, S, K>(m, state, at)?;
-        n -= 1;
     }
     Ok(at)
 }
 
 // The number of pairs at `at`, and the pairs.
+#[tactic(auto, unfolding(crate::specs::Snapshot::pairs_from), using(crate::proofs::Walks::walked_err))]
 fn all_pairs<V: Venue, S, K: Task<V::Terms, S>>(
     m: &[u8],
     state: &mut S,
@@ -185,6 +214,7 @@ fn all_pairs<V: Venue, S, K: Task<V::Terms, S>>(
 }
 
 // The snapshot: the task at each mark, up to the message's end or the first fault.
+#[tactic(auto, unfolding(crate::specs::Snapshot::snapshot_of), using(crate::proofs::Walks::walked_err))]
 pub fn visit_marks<V: Venue, S, K: Task<V::Terms, S>>(
     m: &[u8],
     state: &mut S,
