@@ -1,5 +1,6 @@
 -- What a checked snapshot says, and what is worked of it.
 use Rattle.std.proofs.Common.{◌≡◌, ℕ, ◌<◌, ◌≤◌, true, false, List, [], length, Some, None, Ok, Err, Option, Result, sym, refl, ap, ◌∙◌, subst, arith}
+use Rattle.std.specs.Result.{result_map_both}
 use Rattle.std.proofs.lemmas.Bool.{lt-ltb, le-ltb}
 use Rattle.book.specs.declared.order.Order.{Order}
 use Rattle.venue.specs.Form as venue
@@ -16,6 +17,8 @@ use Rattle.snapshot.specs.Checked.{told, checked}
 use Rattle.orders.specs.Applied.{Applies}
 use Rattle.apply.specs.declared.messages.Message.{Message}
 use Rattle.apply.specs.declared.messages.Message.TheVariants.{Snapshot}
+use Rattle.snapshot.proofs.Repeating.{none_distinct}
+use Rattle.apply.specs.Checked.{Counted, Checked}
 use Rattle.apply.specs.Said.{Said, listing, blank, is_blank_message, listed, unrepeated, snapshot_said}
 use Rattle.apply.specs.Meaning.{after, with_ladder, snapshot_after, Works}
 
@@ -23,15 +26,6 @@ no : {X A : Type 0} {v : A} {y : MessageFault} → ◌≡◌ {A = Result A Messa
 no h = let z : ◌≡◌ {A = ℕ} 0 1 = cc in absurd (omega arith)
 
 module _ {T : Type 0} (F : venue.Form T) (m : List ℕ) where
-  pub record ListedSo (n : Counts) : Type 0 where
-    pub marks : List (Mark T)
-    pub end : ℕ
-    pub read : snapshot_of F m ≡ Ok (marks, end)
-    pub none : first_repeat [] marks ≡ None
-    pub pairs : n.pairs ≡ length (pairs_listed marks)
-    pub orders : n.orders ≡ length (orders_put marks)
-    pub said : snapshot_said F m ≡ Ok (listing marks)
-
   pub short_so : length m < 7 → snapshot_said F m ≡ Err WrongLength
   unfolding snapshot_said
   short_so h = rw (lt-ltb (length m) 7 h)
@@ -56,15 +50,15 @@ module _ {T : Type 0} (F : venue.Form T) (m : List ℕ) where
           go (Some p) e = let same : Repeated p ≡ f = cc in ap Err same
           go None e = no e
 
-  pub listed_so : (n : Counts) → 7 ≤ length m → is_blank_message m ≡ false → checked (snapshot_of F m) ≡ Ok n → ListedSo n
+  pub listed_so : (n : Counts) → 7 ≤ length m → is_blank_message m ≡ false → checked (snapshot_of F m) ≡ Ok n → Counted F m n
   unfolding checked
   listed_so n h b e = by (snapshot_of F m) refl e
     where
-      by : (x : Scan (List (Mark T))) → snapshot_of F m ≡ x → checked x ≡ Ok n → ListedSo n
+      by : (x : Scan (List (Mark T))) → snapshot_of F m ≡ x → checked x ≡ Ok n → Counted F m n
       by (Err g) k e = no (sym e)
       by (Ok y) k e = go (first_repeat [] y.0) refl e
         where
-          go : (o : Option ℕ) → first_repeat [] y.0 ≡ o → told o (record { pairs = length (pairs_listed y.0); orders = length (orders_put y.0) }) ≡ Ok n → ListedSo n
+          go : (o : Option ℕ) → first_repeat [] y.0 ≡ o → told o (record { pairs = length (pairs_listed y.0); orders = length (orders_put y.0) }) ≡ Ok n → Counted F m n
           go (Some p) r e = no (sym e)
           go None r e =
               let is : Counts = record { pairs = length (pairs_listed y.0); orders = length (orders_put y.0) } in
@@ -73,11 +67,16 @@ module _ {T : Type 0} (F : venue.Form T) (m : List ℕ) where
                 marks = y.0;
                 end = y.1;
                 read = k;
-                none = r;
+                distinct = none_distinct y.0 r;
                 pairs = ap (λ (c : Counts). c.pairs) (sym same);
                 orders = ap (λ (c : Counts). c.orders) (sym same);
                 said = counted_so h b ∙ ap (listed F m) k ∙ ap (unrepeated F m y.0) r;
               }
+
+  -- the check's answer, where the message is long enough and not blank
+  pub check_so : (r : Result Counts MessageFault) → 7 ≤ length m → is_blank_message m ≡ false → r ≡ checked (snapshot_of F m) → Checked F m (result_map_both Some (λ e. e) r)
+  check_so (Err f) h b e = fault_so f h b (sym e)
+  check_so (Ok n) h b e = listed_so n h b (sym e)
 
 module _ {T : Type 0} {A : Type 0} (k : A → Reading (Said T × List (Order T))) (l l' : List (Order T)) where
   pub works_err : (x : Reading A) (f : MessageFault) (r : Result (Message T) MessageFault) → x ≡ Err f → r ≡ Err f → l' ≡ l → Works (x ▷ k) l r l'

@@ -1,31 +1,18 @@
 // A snapshot applied to a book, all or nothing.
 ghost use Rattle.std.specs.Prelude.{◌≡◌, ◌+◌, ◌≤◌, length, nat_le};
 ghost use Rattle.book.specs.Ladder.{at_rank};
-ghost use Rattle.snapshot.specs.Snapshot.{snapshot_of};
 ghost use Rattle.snapshot.specs.Repeats.{Distinct};
 ghost use Rattle.snapshot.specs.Listing.{pairs_listed, orders_put, cleared_all, room_needed, replaced};
 ghost use Rattle.orders.specs.Applied.{Applies};
-ghost use Rattle.apply.specs.Marks.{lists, stays, Right, unlisted, Told, tallied};
+ghost use Rattle.apply.specs.Marks.{lists, stays, Right, unlisted, Told};
 ghost use Rattle.apply.specs.Meaning.{snapshot_after};
 
-use crate::tasks::{Asked, Clearing, Counting, Placing, Seeking, Tally, same_pair};
+use crate::tasks::{Asked, Clearing, Placing, Seeking, same_pair};
 use book::{Book, BookFault, Terms};
 use fields::Pair;
 use message::{BookRefusal, MessageFault};
 use snapshot::visit_marks;
 use venue::Venue;
-
-// How many pairs the snapshot lists and how many orders it puts, or its first fault.
-pub(crate) fn count_listed<V: Venue>(m: &[u8]) -> Result<Tally, MessageFault>
-    ensures { result ≡ tallied (snapshot_of V.form m.now) }
-{
-    let mut tally = Tally {
-        pairs: 0,
-        orders: 0,
-    };
-    visit_marks::<V, Tally, Counting>(m, &mut tally)?;
-    Ok(tally)
-}
 
 // Whether the snapshot lists the pair.
 fn is_listed<V: Venue>(m: &[u8], pair: Pair) -> bool
@@ -44,17 +31,12 @@ fn ask<V: Venue>(m: &[u8], pair: Pair, last: Option<Asked>) -> Asked
     ensures pair { result.pair ≡ pair }
     ensures right { Told V.form m.now (λ ms. Right (pairs_listed ms) last → result.listed ≡ lists (pairs_listed ms) pair) }
 {
-    if let Some(asked) = last {
-        if same_pair(asked.pair, pair) {
-            return Asked {
-                pair,
-                listed: asked.listed,
-            };
-        }
-    }
-    Asked {
-        pair,
-        listed: is_listed::<V>(m, pair),
+    match last {
+        Some(asked) if same_pair(asked.pair, pair) => asked,
+        _ => Asked {
+            pair,
+            listed: is_listed::<V>(m, pair),
+        },
     }
 }
 
@@ -67,19 +49,13 @@ fn ask_at<V: Venue, B: Book<V::Terms>>(
 ) -> Option<Asked>
     ensures { Told V.form m.now (λ ms. Right (pairs_listed ms) last → Right (pairs_listed ms) result × (unlisted result ≡ stays (pairs_listed ms) (at_rank (B.Book.ladder book.now) rank))) }
 {
-    match book.at(rank) {
-        Some(order) => Some(ask::<V>(m, order.pair, last)),
-        None => None,
-    }
+    book.at(rank).map(|order| ask::<V>(m, order.pair, last))
 }
 
 fn is_unlisted(asked: Option<Asked>) -> bool
     ensures { result ≡ unlisted asked }
 {
-    match asked {
-        Some(asked) => !asked.listed,
-        None => false,
-    }
+    asked.is_some_and(|asked| !asked.listed)
 }
 
 // How many standing orders are of no pair listed.
@@ -102,10 +78,9 @@ fn kept<V: Venue, B: Book<V::Terms>>(m: &[u8], book: &B) -> usize
 fn has_room(capacity: usize, stay: usize, orders: usize) -> bool
     ensures { result ≡ nat_le (stay + orders) capacity }
 {
-    if stay > capacity {
-        return false;
-    }
-    orders <= capacity - stay
+    capacity
+        .checked_sub(stay)
+        .is_some_and(|left| orders <= left)
 }
 
 // Clears the pairs listed, and places the orders as listed.

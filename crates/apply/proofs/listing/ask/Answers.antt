@@ -1,13 +1,11 @@
-use Rattle.std.proofs.Common.{sym, refl, ◌∙◌}
+use Rattle.std.proofs.Common.{sym, ◌∙◌}
 use Rattle.snapshot.specs.Listing.{pairs_listed}
-use Rattle.apply.proofs.Tallies.{right_same}
+use Rattle.apply.proofs.Keeping.{pair_one}
+use Rattle.apply.proofs.Seeks.{right_same}
 use Rattle.apply.proofs.listing.ask.Goals as goal
 
-pub returns-then-same_pair : goal.returns-then-same_pair
-returns-then-same_pair g c = record {
-  pair = refl;
-  right = λ ms e h r. right_same (pairs_listed ms) c.args.last c.in-Some.asked c.args.pair c.in-Some.is (sym c.same_pair.ensures ∙ c.if-same_pair.true) r;
-}
+pub returns-in-Some-clause-pair : goal.returns-in-Some-clause-pair
+returns-in-Some-clause-pair g c = pair_one _ _ (sym c.same_pair.ensures ∙ c.if-same_pair.true)
 
-pub returns : goal.returns
-returns g c = record { pair = refl; right = λ ms e h r. c.is_listed.ensures ms e h }
+pub returns-in-Some-clause-right : goal.returns-in-Some-clause-right
+returns-in-Some-clause-right g c ms e h = right_same (pairs_listed ms) c.args.last c.in-Some.asked c.args.pair c.in-Some.is (sym c.same_pair.ensures ∙ c.if-same_pair.true)

@@ -1,5 +1,5 @@
 use Rattle.std.proofs.Common.{false}
-use Rattle.apply.proofs.Tallies.{seek_runs}
+use Rattle.apply.proofs.Seeks.{seek_runs}
 use Rattle.apply.proofs.listing.is_listed.Goals as goal
 
 pub returns : goal.returns
