@@ -1,5 +1,5 @@
 -- What a checked snapshot says, and what is worked of it.
-use Rattle.std.proofs.Common.{◌≡◌, ℕ, ◌<◌, ◌≤◌, true, false, List, [], length, Some, None, Ok, Err, Option, Result, sym, refl, ap, ◌∙◌, subst, arith}
+use Rattle.std.proofs.Common.{◌≡◌, ℕ, ◌<◌, ◌≤◌, true, false, List, [], length, Some, None, Ok, Err, Option, Result, sym, refl, ap, ◌∙◌, subst}
 use Rattle.std.specs.Result.{result_map_both}
 use Rattle.std.proofs.lemmas.Bool.{lt-ltb, le-ltb}
 use Rattle.book.specs.declared.order.Order.{Order}
@@ -21,9 +21,6 @@ use Rattle.snapshot.proofs.Repeating.{none_distinct}
 use Rattle.apply.specs.Checked.{Counted, Checked}
 use Rattle.apply.specs.Said.{Said, listing, blank, is_blank_message, listed, unrepeated, snapshot_said}
 use Rattle.apply.specs.Meaning.{after, with_ladder, snapshot_after, Works}
-
-no : {X A : Type 0} {v : A} {y : MessageFault} → ◌≡◌ {A = Result A MessageFault} (Ok v) (Err y) → X
-no h = let z : ◌≡◌ {A = ℕ} 0 1 = cc in absurd (omega arith)
 
 module _ {T : Type 0} (F : venue.Form T) (m : List ℕ) where
   pub short_so : length m < 7 → snapshot_said F m ≡ Err WrongLength
@@ -48,18 +45,18 @@ module _ {T : Type 0} (F : venue.Form T) (m : List ℕ) where
         where
           go : (o : Option ℕ) → told o (record { pairs = length (pairs_listed y.0); orders = length (orders_put y.0) }) ≡ Err f → unrepeated F m y.0 o ≡ Err f
           go (Some p) e = let same : Repeated p ≡ f = cc in ap Err same
-          go None e = no e
+          go None e = absurd cc
 
   pub listed_so : (n : Counts) → 7 ≤ length m → is_blank_message m ≡ false → checked (snapshot_of F m) ≡ Ok n → Counted F m n
   unfolding checked
   listed_so n h b e = by (snapshot_of F m) refl e
     where
       by : (x : Scan (List (Mark T))) → snapshot_of F m ≡ x → checked x ≡ Ok n → Counted F m n
-      by (Err g) k e = no (sym e)
+      by (Err g) k e = absurd cc
       by (Ok y) k e = go (first_repeat [] y.0) refl e
         where
           go : (o : Option ℕ) → first_repeat [] y.0 ≡ o → told o (record { pairs = length (pairs_listed y.0); orders = length (orders_put y.0) }) ≡ Ok n → Counted F m n
-          go (Some p) r e = no (sym e)
+          go (Some p) r e = absurd cc
           go None r e =
               let is : Counts = record { pairs = length (pairs_listed y.0); orders = length (orders_put y.0) } in
               let same : is ≡ n = cc in
