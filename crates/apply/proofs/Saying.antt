@@ -1,7 +1,6 @@
 -- Messages are read exactly where they are laid out.
-use Rattle.std.proofs.Common.{◌≡◌, ℕ, ◌≤◌, Bool, true, false, cond, eqb, ltb, ◌⊎◌, List, [], length, get_or, Some, None, Ok, Err, codes, Option, sym, refl, ap, ◌∙◌, subst, inl, inr, ⊎_elim, arith, length-append, ltb-true, ne_eqb, eqb-true}
-use borrow.Author.Tests.{eqb-false}
-use Rattle.std.proofs.lemmas.Bool.{cases_Bool, ltb-false, le-ltb, true≢false}
+use Rattle.std.proofs.Common.{◌≡◌, ℕ, ◌≤◌, Bool, true, false, cond, ltb, ◌⊎◌, List, [], length, get_or, Some, None, Ok, Err, codes, Option, sym, refl, ap, ◌∙◌, subst, inl, inr, ⊎_elim, arith, length-append, ltb-true, ne_eqb}
+use Rattle.std.proofs.lemmas.Bool.{cases_eq, cases_Bool, ltb-false, le-ltb, true≢false}
 use Rattle.std.specs.Str.{bytes_eq}
 use Rattle.book.specs.Orderly.{bytes_same, same_bytes}
 use Rattle.readers.proofs.Together.{reader_laws}
@@ -26,6 +25,11 @@ use Rattle.apply.specs.Reads.{Exactly, Refused, SnapshotRefused, Lettered, Messa
 
 not_same : (xs ys : List ℕ) → (xs ≡ ys → ⊥) → bytes_eq xs ys ≡ false
 not_same xs ys n = ⊎_elim (λ e. absurd (n (bytes_same xs ys e))) (λ e. e) (cases_Bool (bytes_eq xs ys))
+
+or_neither : {P Q : Type 0} → P ⊎ (P → ⊥) → Q ⊎ (Q → ⊥) → (P ⊎ Q) ⊎ ((P ⊎ Q) → ⊥)
+or_neither (inl p) q = inl (inl p)
+or_neither (inr n) (inl q) = inl (inr q)
+or_neither (inr n) (inr k) = inr (⊎_elim n k)
 
 -- a reading that gives a message gave what the message says
 carried : {A T : Type 0} (x : Reading A) (f : A → Said T) (s : Said T) → (x ▷ λ v. Ok (f v)) ≡ Ok s → (v : A) × (x ≡ Ok v) × (f v ≡ s)
@@ -75,34 +79,9 @@ module _ {T : Type 0} (F : venue.Form T) (m : List ℕ) where
 
   -- the first byte is one of the letters, or none
   lettered : Lettered F m ⊎ (Lettered F m → ⊥)
-  lettered = by (eqb c 78) (eqb c 77) (eqb c 88) (eqb c 83) (eqb c 84) (eqb c 86) refl refl refl refl refl refl
-    where
-      c : ℕ
-      c = get_or m 0 0
-
-      by : (x y z u v w : Bool) → eqb (get_or m 0 0) 78 ≡ x → eqb (get_or m 0 0) 77 ≡ y → eqb (get_or m 0 0) 88 ≡ z → eqb (get_or m 0 0) 83 ≡ u → eqb (get_or m 0 0) 84 ≡ v → eqb (get_or m 0 0) 86 ≡ w → Lettered F m ⊎ (Lettered F m → ⊥)
-      by true y z u v w a b d e g h = inl (inl (eqb-true _ 78 a))
-      by false true z u v w a b d e g h = inl (inr (inl (eqb-true _ 77 b)))
-      by false false true u v w a b d e g h = inl (inr (inr (inl (eqb-true _ 88 d))))
-      by false false false true v w a b d e g h = inl (inr (inr (inr (inl (eqb-true _ 83 e)))))
-      by false false false false true w a b d e g h = inl (inr (inr (inr (inr (inl (eqb-true _ 84 g))))))
-      by false false false false false true a b d e g h = inl (inr (inr (inr (inr (inr (eqb-true _ 86 h))))))
-      by false false false false false false a b d e g h = inr (λ l. elim l [
-        | inl p ↦ eqb-false _ 78 a p
-        | inr k ↦ elim k [
-          | inl p ↦ eqb-false _ 77 b p
-          | inr k ↦ elim k [
-            | inl p ↦ eqb-false _ 88 d p
-            | inr k ↦ elim k [
-              | inl p ↦ eqb-false _ 83 e p
-              | inr k ↦ elim k [
-                | inl p ↦ eqb-false _ 84 g p
-                | inr p ↦ eqb-false _ 86 h p
-              ]
-            ]
-          ]
-        ]
-      ])
+  lettered =
+      let c = get_or m 0 0 in
+      or_neither (cases_eq c 78) (or_neither (cases_eq c 77) (or_neither (cases_eq c 88) (or_neither (cases_eq c 83) (or_neither (cases_eq c 84) (cases_eq c 86)))))
 
   -- a counted snapshot
   counted : (x : Scan (List (Mark T))) (s : Said T) → snapshot_of F m ≡ x → listed F m x ≡ Ok s → (ms : List (Mark T)) × (s ≡ listing ms) × CountedLaid F m ms × Distinct ms
