@@ -17,7 +17,7 @@ use Rattle.snapshot.specs.Checked.{told, checked}
 use Rattle.orders.specs.Applied.{Applies}
 use Rattle.apply.specs.declared.messages.Message.{Message}
 use Rattle.apply.specs.declared.messages.Message.TheVariants.{Snapshot}
-use Rattle.snapshot.proofs.Repeating.{none_distinct}
+use Rattle.apply.specs.Marks.{marks_of, marks}
 use Rattle.apply.specs.Checked.{Counted, Checked}
 use Rattle.apply.specs.Said.{Said, listing, blank, is_blank_message, listed, unrepeated, snapshot_said}
 use Rattle.apply.specs.Meaning.{after, with_ladder, snapshot_after, Works}
@@ -47,28 +47,40 @@ module _ {T : Type 0} (F : venue.Form T) (m : List ℕ) where
           go (Some p) e = let same : Repeated p ≡ f = cc in ap Err same
           go None e = absurd cc
 
-  pub listed_so : (n : Counts) → 7 ≤ length m → is_blank_message m ≡ false → checked (snapshot_of F m) ≡ Ok n → Counted F m n
+  -- what is known of a snapshot that was checked
+  pub record Whole (n : Counts) : Type 0 where
+    pub end : ℕ
+    pub read : snapshot_of F m ≡ Ok (marks F m, end)
+    pub none : first_repeat [] (marks F m) ≡ None
+    pub pairs : n.pairs ≡ length (pairs_listed (marks F m))
+    pub orders : n.orders ≡ length (orders_put (marks F m))
+
+  pub whole : (n : Counts) → checked (snapshot_of F m) ≡ Ok n → Whole n
   unfolding checked
-  listed_so n h b e = by (snapshot_of F m) refl e
+  whole n e = by (snapshot_of F m) refl e
     where
-      by : (x : Scan (List (Mark T))) → snapshot_of F m ≡ x → checked x ≡ Ok n → Counted F m n
+      by : (x : Scan (List (Mark T))) → snapshot_of F m ≡ x → checked x ≡ Ok n → Whole n
       by (Err g) k e = absurd cc
       by (Ok y) k e = go (first_repeat [] y.0) refl e
         where
-          go : (o : Option ℕ) → first_repeat [] y.0 ≡ o → told o (record { pairs = length (pairs_listed y.0); orders = length (orders_put y.0) }) ≡ Ok n → Counted F m n
+          go : (o : Option ℕ) → first_repeat [] y.0 ≡ o → told o (record { pairs = length (pairs_listed y.0); orders = length (orders_put y.0) }) ≡ Ok n → Whole n
           go (Some p) r e = absurd cc
           go None r e =
+              let are : y.0 ≡ marks F m = ap marks_of (sym k) in
               let is : Counts = record { pairs = length (pairs_listed y.0); orders = length (orders_put y.0) } in
-              let same : is ≡ n = cc in
+              let same : n ≡ is = cc in
               record {
-                marks = y.0;
                 end = y.1;
-                read = k;
-                distinct = none_distinct y.0 r;
-                pairs = ap (λ (c : Counts). c.pairs) (sym same);
-                orders = ap (λ (c : Counts). c.orders) (sym same);
-                said = counted_so h b ∙ ap (listed F m) k ∙ ap (unrepeated F m y.0) r;
+                read = k ∙ ap (λ ms. Ok (ms, y.1)) are;
+                none = subst (λ ms. first_repeat [] ms ≡ None) are r;
+                pairs = ap (λ (c : Counts). c.pairs) same ∙ ap (λ ms. length (pairs_listed ms)) are;
+                orders = ap (λ (c : Counts). c.orders) same ∙ ap (λ ms. length (orders_put ms)) are;
               }
+
+  pub listed_so : (n : Counts) → 7 ≤ length m → is_blank_message m ≡ false → checked (snapshot_of F m) ≡ Ok n → Counted F m n
+  listed_so n h b e =
+      let w = whole n e in
+      record { counts = e; pairs = w.pairs; said = counted_so h b ∙ ap (listed F m) w.read ∙ ap (unrepeated F m (marks F m)) w.none }
 
   -- the check's answer, where the message is long enough and not blank
   pub check_so : (r : Result Counts MessageFault) → 7 ≤ length m → is_blank_message m ≡ false → r ≡ checked (snapshot_of F m) → Checked F m (result_map_both Some (λ e. e) r)

@@ -1,5 +1,5 @@
 -- What the walks over a snapshot find and do, mark by mark.
-use Rattle.std.specs.Prelude.{◌≡◌, ℕ, ◌<◌, Bool, true, false, not, List, length, Some, None, Ok, Option}
+use Rattle.std.specs.Prelude.{◌≡◌, ℕ, ◌<◌, Bool, true, false, not, List, [], length, Some, None, Ok, Err, Option}
 use Rattle.std.specs.List.{AllByRecursion}
 use Rattle.fields.specs.declared.values.Pair.{Pair}
 use Rattle.book.specs.declared.order.Order.{Order}
@@ -7,6 +7,7 @@ use Rattle.book.specs.Ladder.{same_pair, stands, placed, cleared}
 use Rattle.venue.specs.Form as venue
 use Rattle.snapshot.specs.declared.mark.Mark.{Mark}
 use Rattle.snapshot.specs.declared.mark.Mark.TheVariants.{Lists, Puts}
+use Rattle.snapshot.specs.Scanning.{Scan}
 use Rattle.snapshot.specs.Snapshot.{snapshot_of}
 use Rattle.snapshot.specs.Listing.{pairs_listed, orders_put}
 use Rattle.snapshot.specs.Listing as snapshot
@@ -36,9 +37,13 @@ module _ {T : Type 0} where
   abbrev pub OfListed : List (Mark T) → Type 0
   OfListed ms = AllByRecursion (λ (o : Order T). lists (pairs_listed ms) o.pair ≡ true) (orders_put ms)
 
-  -- what is said of what a message lists, where it is a snapshot
-  abbrev pub Told : venue.Form T → List ℕ → (List (Mark T) → Type 0) → Type 0
-  Told F m P = (ms : List (Mark T)) (e : ℕ) → snapshot_of F m ≡ Ok (ms, e) → P ms
+  -- what a snapshot lists and puts, in layout order; nothing where the message is none
+  abbrev pub marks_of : Scan (List (Mark T)) → List (Mark T)
+  marks_of (Ok x) = x.0
+  marks_of (Err f) = []
+
+  abbrev pub marks : venue.Form T → List ℕ → List (Mark T)
+  marks F m = marks_of (snapshot_of F m)
 
   -- the mark lists this pair
   abbrev pub names : Pair → Mark T → Bool

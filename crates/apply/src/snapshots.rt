@@ -8,7 +8,7 @@ ghost use Rattle.apply.specs.Checked.{Checked};
 ghost use Rattle.apply.specs.Said.{is_blank_message, snapshot_said, summed};
 ghost use Rattle.apply.specs.Meaning.{after, with_ladder, Works};
 
-use crate::listing::replace_listed;
+use crate::listing::Listing;
 use crate::messages::Message;
 use book::{Book, Terms};
 use message::MessageFault;
@@ -59,7 +59,7 @@ pub(crate) fn work_snapshot<V: Venue, B: Book<V::Terms>>(
 {
     let counts = checked::<V>(m)?;
     if let Some(n) = counts {
-        replace_listed::<V, B>(book, m, n.orders)?;
+        Listing::<V>::new(m, n).apply(book)?;
     }
     Ok(told(counts))
 }

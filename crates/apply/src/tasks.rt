@@ -7,7 +7,7 @@ use book::{Book, Order, Terms};
 use fields::Pair;
 use snapshot::{Mark, Task};
 
-// A pair, and whether the snapshot lists it.
+// A pair, and whether the snapshot lists it. Either answer is a value: an enum of the two would hold the pair in both.
 #[derive(Clone, Copy)]
 pub struct Asked {
     pub pair: Pair,
