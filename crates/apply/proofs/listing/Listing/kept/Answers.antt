@@ -1,5 +1,5 @@
-use Rattle.std.proofs.Common.{◌≡◌, ◌+◌, ◌≤◌, length, sym, ap, ◌∙◌, arith, take_all}
-use Rattle.snapshot.specs.Listing.{pairs_listed, cleared_all}
+use Rattle.std.proofs.Common.{◌≡◌, ◌+◌, ◌≤◌, length, sym, ap, ◌∙◌, arith}
+use Rattle.snapshot.specs.Listing.{pairs_listed}
 use Rattle.apply.specs.Marks.{marks}
 use Rattle.apply.proofs.Keeping.{one, kept_step, cleared_none}
 use Rattle.apply.proofs.listing.Listing.kept.Goals as goal
@@ -23,9 +23,3 @@ loop-rank-preserved g c =
       right = told.0;
       counted = kept_step ps (g.B.Book.ladder c.args.book.now) c.loop-rank.rank c.loop-rank.n c.if-is_unlisted.n c.is_unlisted.result was.counted (c.is_unlisted.ensures ∙ told.1) way;
     }
-
-pub returns : goal.returns
-returns g c =
-    let l = g.B.Book.ladder c.args.book.now in
-    let all : length l ≤ c.loop-rank.rank = omega (arith, c.len-len.ensures) in
-    c.loop-rank.invariant.counted ∙ ap (λ z. length (cleared_all (pairs_listed (marks g.V.Venue.form c.args.self.now.m.now)) z)) (take_all c.loop-rank.rank l all)
