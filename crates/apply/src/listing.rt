@@ -81,7 +81,8 @@ impl<'a, V: Venue> Listing<'a, V> {
 
     // Whether the snapshot lists the pair of the order at a rank.
     fn ask_at<B: Book<V::Terms>>(&self, book: &B, rank: usize, last: Option<Asked>) -> Option<Asked>
-        ensures { Right (pairs_listed (marks V.form self.now.m.now)) last → Right (pairs_listed (marks V.form self.now.m.now)) result × (unlisted result ≡ stays (pairs_listed (marks V.form self.now.m.now)) (at_rank (B.Book.ladder book.now) rank)) }
+        ensures right { Right (pairs_listed (marks V.form self.now.m.now)) last → Right (pairs_listed (marks V.form self.now.m.now)) result }
+        ensures stays { Right (pairs_listed (marks V.form self.now.m.now)) last → unlisted result ≡ stays (pairs_listed (marks V.form self.now.m.now)) (at_rank (B.Book.ladder book.now) rank) }
     {
         let order = book.at(rank)?;
         Some(self.ask(order.pair, last))

@@ -12,7 +12,6 @@ pub loop-rank-preserved : goal.loop-rank-preserved
 loop-rank-preserved g c =
     let ps = pairs_listed (marks g.V.Venue.form c.args.self.now.m.now) in
     let was = c.loop-rank.invariant in
-    let told = c.ask_at-last.ensures was.right in
     let way : c.if-is_unlisted.n ≡ c.loop-rank.n + one c.is_unlisted.result = elim c.if-is_unlisted.branch [
       | then-is_unlisted w ↦ let z = ap one w.if-is_unlisted.true in omega (arith, w.n-is)
       | else-is_unlisted w ↦ let z = ap one w.if-is_unlisted.false in omega (arith, w.n-is)
@@ -20,6 +19,6 @@ loop-rank-preserved g c =
     let more : c.if-is_unlisted.n ≤ c.loop-rank.n + 1 = elim c.if-is_unlisted.branch [ then-is_unlisted w ↦ omega (arith, w.n-is) | else-is_unlisted w ↦ omega (arith, w.n-is) ] in
     record {
       few = omega (arith, more, was.few);
-      right = told.0;
-      counted = kept_step ps (g.B.Book.ladder c.args.book.now) c.loop-rank.rank c.loop-rank.n c.if-is_unlisted.n c.is_unlisted.result was.counted (c.is_unlisted.ensures ∙ told.1) way;
+      right = c.ask_at-last.ensures.right was.right;
+      counted = kept_step ps (g.B.Book.ladder c.args.book.now) c.loop-rank.rank c.loop-rank.n c.if-is_unlisted.n c.is_unlisted.result was.counted (c.is_unlisted.ensures ∙ c.ask_at-last.ensures.stays was.right) way;
     }
