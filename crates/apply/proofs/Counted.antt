@@ -1,5 +1,6 @@
 -- What a checked snapshot says, and what is worked of it.
-use Rattle.std.proofs.Common.{◌≡◌, ℕ, ◌<◌, ◌≤◌, true, false, List, [], length, Some, None, Ok, Err, Option, Result, sym, refl, ap, ◌∙◌, subst, arith}
+use Rattle.std.proofs.Common.{◌≡◌, ℕ, ◌<◌, ◌≤◌, true, false, List, [], length, Some, None, Ok, Err, Option, Result, sym, refl, ap, ◌∙◌, subst}
+use Rattle.std.specs.Result.{result_map_both}
 use Rattle.std.proofs.lemmas.Bool.{lt-ltb, le-ltb}
 use Rattle.book.specs.declared.order.Order.{Order}
 use Rattle.venue.specs.Form as venue
@@ -16,22 +17,12 @@ use Rattle.snapshot.specs.Checked.{told, checked}
 use Rattle.orders.specs.Applied.{Applies}
 use Rattle.apply.specs.declared.messages.Message.{Message}
 use Rattle.apply.specs.declared.messages.Message.TheVariants.{Snapshot}
+use Rattle.apply.specs.Marks.{marks_of, marks}
+use Rattle.apply.specs.Checked.{Counted, Checked}
 use Rattle.apply.specs.Said.{Said, listing, blank, is_blank_message, listed, unrepeated, snapshot_said}
 use Rattle.apply.specs.Meaning.{after, with_ladder, snapshot_after, Works}
 
-no : {X A : Type 0} {v : A} {y : MessageFault} → ◌≡◌ {A = Result A MessageFault} (Ok v) (Err y) → X
-no h = let z : ◌≡◌ {A = ℕ} 0 1 = cc in absurd (omega arith)
-
 module _ {T : Type 0} (F : venue.Form T) (m : List ℕ) where
-  pub record ListedSo (n : Counts) : Type 0 where
-    pub marks : List (Mark T)
-    pub end : ℕ
-    pub read : snapshot_of F m ≡ Ok (marks, end)
-    pub none : first_repeat [] marks ≡ None
-    pub pairs : n.pairs ≡ length (pairs_listed marks)
-    pub orders : n.orders ≡ length (orders_put marks)
-    pub said : snapshot_said F m ≡ Ok (listing marks)
-
   pub short_so : length m < 7 → snapshot_said F m ≡ Err WrongLength
   unfolding snapshot_said
   short_so h = rw (lt-ltb (length m) 7 h)
@@ -54,30 +45,47 @@ module _ {T : Type 0} (F : venue.Form T) (m : List ℕ) where
         where
           go : (o : Option ℕ) → told o (record { pairs = length (pairs_listed y.0); orders = length (orders_put y.0) }) ≡ Err f → unrepeated F m y.0 o ≡ Err f
           go (Some p) e = let same : Repeated p ≡ f = cc in ap Err same
-          go None e = no e
+          go None e = absurd cc
 
-  pub listed_so : (n : Counts) → 7 ≤ length m → is_blank_message m ≡ false → checked (snapshot_of F m) ≡ Ok n → ListedSo n
+  -- what is known of a snapshot that was checked
+  pub record Whole (n : Counts) : Type 0 where
+    pub end : ℕ
+    pub read : snapshot_of F m ≡ Ok (marks F m, end)
+    pub none : first_repeat [] (marks F m) ≡ None
+    pub pairs : n.pairs ≡ length (pairs_listed (marks F m))
+    pub orders : n.orders ≡ length (orders_put (marks F m))
+
+  pub whole : (n : Counts) → checked (snapshot_of F m) ≡ Ok n → Whole n
   unfolding checked
-  listed_so n h b e = by (snapshot_of F m) refl e
+  whole n e = by (snapshot_of F m) refl e
     where
-      by : (x : Scan (List (Mark T))) → snapshot_of F m ≡ x → checked x ≡ Ok n → ListedSo n
-      by (Err g) k e = no (sym e)
+      by : (x : Scan (List (Mark T))) → snapshot_of F m ≡ x → checked x ≡ Ok n → Whole n
+      by (Err g) k e = absurd cc
       by (Ok y) k e = go (first_repeat [] y.0) refl e
         where
-          go : (o : Option ℕ) → first_repeat [] y.0 ≡ o → told o (record { pairs = length (pairs_listed y.0); orders = length (orders_put y.0) }) ≡ Ok n → ListedSo n
-          go (Some p) r e = no (sym e)
+          go : (o : Option ℕ) → first_repeat [] y.0 ≡ o → told o (record { pairs = length (pairs_listed y.0); orders = length (orders_put y.0) }) ≡ Ok n → Whole n
+          go (Some p) r e = absurd cc
           go None r e =
+              let are : y.0 ≡ marks F m = ap marks_of (sym k) in
               let is : Counts = record { pairs = length (pairs_listed y.0); orders = length (orders_put y.0) } in
-              let same : is ≡ n = cc in
+              let same : n ≡ is = cc in
               record {
-                marks = y.0;
                 end = y.1;
-                read = k;
-                none = r;
-                pairs = ap (λ (c : Counts). c.pairs) (sym same);
-                orders = ap (λ (c : Counts). c.orders) (sym same);
-                said = counted_so h b ∙ ap (listed F m) k ∙ ap (unrepeated F m y.0) r;
+                read = k ∙ ap (λ ms. Ok (ms, y.1)) are;
+                none = subst (λ ms. first_repeat [] ms ≡ None) are r;
+                pairs = ap (λ (c : Counts). c.pairs) same ∙ ap (λ ms. length (pairs_listed ms)) are;
+                orders = ap (λ (c : Counts). c.orders) same ∙ ap (λ ms. length (orders_put ms)) are;
               }
+
+  pub listed_so : (n : Counts) → 7 ≤ length m → is_blank_message m ≡ false → checked (snapshot_of F m) ≡ Ok n → Counted F m n
+  listed_so n h b e =
+      let w = whole n e in
+      record { counts = e; pairs = w.pairs; said = counted_so h b ∙ ap (listed F m) w.read ∙ ap (unrepeated F m (marks F m)) w.none }
+
+  -- the check's answer, where the message is long enough and not blank
+  pub check_so : (r : Result Counts MessageFault) → 7 ≤ length m → is_blank_message m ≡ false → r ≡ checked (snapshot_of F m) → Checked F m (result_map_both Some (λ e. e) r)
+  check_so (Err f) h b e = fault_so f h b (sym e)
+  check_so (Ok n) h b e = listed_so n h b (sym e)
 
 module _ {T : Type 0} {A : Type 0} (k : A → Reading (Said T × List (Order T))) (l l' : List (Order T)) where
   pub works_err : (x : Reading A) (f : MessageFault) (r : Result (Message T) MessageFault) → x ≡ Err f → r ≡ Err f → l' ≡ l → Works (x ▷ k) l r l'

@@ -21,6 +21,9 @@ use Rattle.apply.specs.Marks.{lists, stays, OfListed, clears, Places}
 abbrev pub one : Bool → ℕ
 one b = cond b 1 0
 
+pub pair_one : (q p : Pair) → same_pair q p ≡ true → q ≡ p
+pair_one q p h = pair_same q p (bytes_same q.bytes p.bytes h)
+
 module _ {T : Type 0} where
   pub cleared_cons : (ps : List Pair) (x : Order T) (l : List (Order T)) → cleared_all ps (x ∷ l) ≡ cond (lists ps x.pair) (cleared_all ps l) (x ∷ cleared_all ps l)
   cleared_cons [] x l = refl
@@ -67,7 +70,7 @@ module _ {T : Type 0} where
   not_named p i x h = and_left _ _ h
 
   other : (ps : List Pair) (p : Pair) (i : OrderId) (x : Order T) (b : Bool) → lists ps p ≡ b → lists ps x.pair ≡ not b → named p i x ≡ false
-  other ps p i x b h e = not_named p i x (⊎_elim (λ s. absurd (apart_from b (sym h ∙ ap (lists ps) (sym (pair_same x.pair p (bytes_same _ _ s))) ∙ e))) (λ n. n) (cases_Bool (same_pair x.pair p)))
+  other ps p i x b h e = not_named p i x (⊎_elim (λ s. absurd (apart_from b (sym h ∙ ap (lists ps) (sym (pair_one x.pair p s)) ∙ e))) (λ n. n) (cases_Bool (same_pair x.pair p)))
     where
       apart_from : (b : Bool) → b ≡ not b → ⊥
       apart_from true h = both_ways true h refl

@@ -1,5 +1,5 @@
 pub mod Saying
 pub mod Keeping
-pub mod Tallies
+pub mod Seeks
 pub mod Wholes
 pub mod Counted

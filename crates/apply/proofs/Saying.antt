@@ -1,7 +1,6 @@
 -- Messages are read exactly where they are laid out.
-use Rattle.std.proofs.Common.{◌≡◌, ℕ, ◌≤◌, Bool, true, false, cond, eqb, ltb, ◌⊎◌, List, [], length, get_or, Some, None, Ok, Err, codes, Option, sym, refl, ap, ◌∙◌, subst, inl, inr, arith, length-append, ltb-true, ne_eqb, eqb-true}
-use borrow.Author.Tests.{eqb-false}
-use Rattle.std.proofs.lemmas.Bool.{ltb-false, le-ltb, true≢false}
+use Rattle.std.proofs.Common.{◌≡◌, ℕ, ◌≤◌, Bool, true, false, cond, ltb, ◌⊎◌, List, [], length, get_or, Some, None, Ok, Err, codes, Option, sym, refl, ap, ◌∙◌, subst, inl, inr, ⊎_elim, arith, length-append, ltb-true, ne_eqb}
+use Rattle.std.proofs.lemmas.Bool.{cases_eq, cases_Bool, ltb-false, le-ltb, true≢false}
 use Rattle.std.specs.Str.{bytes_eq}
 use Rattle.book.specs.Orderly.{bytes_same, same_bytes}
 use Rattle.readers.proofs.Together.{reader_laws}
@@ -24,23 +23,21 @@ use Rattle.apply.specs.declared.messages.Message.{Message}
 use Rattle.apply.specs.Said.{summary, summed, Said, new, modify, cancel, listing, blank, trade, volume, LaidOut, Blank, is_blank_message, unrepeated, listed, snapshot_said, message_of}
 use Rattle.apply.specs.Reads.{Exactly, Refused, SnapshotRefused, Lettered, MessageLaws}
 
-never : {X A : Type 0} {v : A} {y : MessageFault} → ◌≡◌ {A = Reading A} (Ok v) (Err y) → X
-never h = let z : ◌≡◌ {A = ℕ} 0 1 = cc in absurd (omega arith)
-
 not_same : (xs ys : List ℕ) → (xs ≡ ys → ⊥) → bytes_eq xs ys ≡ false
-not_same xs ys n = by (bytes_eq xs ys) refl
-  where
-    by : (b : Bool) → bytes_eq xs ys ≡ b → bytes_eq xs ys ≡ false
-    by true e = absurd (n (bytes_same xs ys e))
-    by false e = e
+not_same xs ys n = ⊎_elim (λ e. absurd (n (bytes_same xs ys e))) (λ e. e) (cases_Bool (bytes_eq xs ys))
+
+or_neither : {P Q : Type 0} → P ⊎ (P → ⊥) → Q ⊎ (Q → ⊥) → (P ⊎ Q) ⊎ ((P ⊎ Q) → ⊥)
+or_neither (inl p) q = inl (inl p)
+or_neither (inr n) (inl q) = inl (inr q)
+or_neither (inr n) (inr k) = inr (⊎_elim n k)
 
 -- a reading that gives a message gave what the message says
 carried : {A T : Type 0} (x : Reading A) (f : A → Said T) (s : Said T) → (x ▷ λ v. Ok (f v)) ≡ Ok s → (v : A) × (x ≡ Ok v) × (f v ≡ s)
 carried (Ok v) f s h = let e : f v ≡ s = cc in (v, refl, e)
-carried (Err e) f s h = never (sym h)
+carried (Err e) f s h = absurd cc
 
 faulted : {A T : Type 0} (x : Reading A) (f : A → Said T) (e : MessageFault) → (x ▷ λ v. Ok (f v)) ≡ Err e → x ≡ Err e
-faulted (Ok v) f e h = never h
+faulted (Ok v) f e h = absurd cc
 faulted (Err d) f e h = let z : d ≡ e = cc in ap Err z
 
 module _ {T : Type 0} (F : venue.Form T) (m : List ℕ) where
@@ -82,43 +79,18 @@ module _ {T : Type 0} (F : venue.Form T) (m : List ℕ) where
 
   -- the first byte is one of the letters, or none
   lettered : Lettered F m ⊎ (Lettered F m → ⊥)
-  lettered = by (eqb c 78) (eqb c 77) (eqb c 88) (eqb c 83) (eqb c 84) (eqb c 86) refl refl refl refl refl refl
-    where
-      c : ℕ
-      c = get_or m 0 0
-
-      by : (x y z u v w : Bool) → eqb (get_or m 0 0) 78 ≡ x → eqb (get_or m 0 0) 77 ≡ y → eqb (get_or m 0 0) 88 ≡ z → eqb (get_or m 0 0) 83 ≡ u → eqb (get_or m 0 0) 84 ≡ v → eqb (get_or m 0 0) 86 ≡ w → Lettered F m ⊎ (Lettered F m → ⊥)
-      by true y z u v w a b d e g h = inl (inl (eqb-true _ 78 a))
-      by false true z u v w a b d e g h = inl (inr (inl (eqb-true _ 77 b)))
-      by false false true u v w a b d e g h = inl (inr (inr (inl (eqb-true _ 88 d))))
-      by false false false true v w a b d e g h = inl (inr (inr (inr (inl (eqb-true _ 83 e)))))
-      by false false false false true w a b d e g h = inl (inr (inr (inr (inr (inl (eqb-true _ 84 g))))))
-      by false false false false false true a b d e g h = inl (inr (inr (inr (inr (inr (eqb-true _ 86 h))))))
-      by false false false false false false a b d e g h = inr (λ l. elim l [
-        | inl p ↦ eqb-false _ 78 a p
-        | inr k ↦ elim k [
-          | inl p ↦ eqb-false _ 77 b p
-          | inr k ↦ elim k [
-            | inl p ↦ eqb-false _ 88 d p
-            | inr k ↦ elim k [
-              | inl p ↦ eqb-false _ 83 e p
-              | inr k ↦ elim k [
-                | inl p ↦ eqb-false _ 84 g p
-                | inr p ↦ eqb-false _ 86 h p
-              ]
-            ]
-          ]
-        ]
-      ])
+  lettered =
+      let c = get_or m 0 0 in
+      or_neither (cases_eq c 78) (or_neither (cases_eq c 77) (or_neither (cases_eq c 88) (or_neither (cases_eq c 83) (or_neither (cases_eq c 84) (cases_eq c 86)))))
 
   -- a counted snapshot
   counted : (x : Scan (List (Mark T))) (s : Said T) → snapshot_of F m ≡ x → listed F m x ≡ Ok s → (ms : List (Mark T)) × (s ≡ listing ms) × CountedLaid F m ms × Distinct ms
-  counted (Err f) s e h = never (sym h)
+  counted (Err f) s e h = absurd cc
   counted (Ok y) s e h = by (first_repeat [] y.0) refl h
     where
       by : (o : Option ℕ) → first_repeat [] y.0 ≡ o → unrepeated F m y.0 o ≡ Ok s → (ms : List (Mark T)) × (s ≡ listing ms) × CountedLaid F m ms × Distinct ms
       by None r h = let same : listing y.0 ≡ s = cc in (y.0, sym same, (counted_sound reader_laws F m y.0 y.1 e).0, none_distinct y.0 r)
-      by (Some p) r h = never (sym h)
+      by (Some p) r h = absurd cc
 
   stopped : (x : Scan (List (Mark T))) (f : MessageFault) → snapshot_of F m ≡ x → listed F m x ≡ Err f
       → CountedStops F m f ⊎ ((ms : List (Mark T)) × (p : ℕ) × CountedLaid F m ms × RepeatAt ms p × (f ≡ Repeated p))
@@ -127,7 +99,7 @@ module _ {T : Type 0} (F : venue.Form T) (m : List ℕ) where
     where
       by : (o : Option ℕ) → first_repeat [] y.0 ≡ o → unrepeated F m y.0 o ≡ Err f
           → CountedStops F m f ⊎ ((ms : List (Mark T)) × (p : ℕ) × CountedLaid F m ms × RepeatAt ms p × (f ≡ Repeated p))
-      by None r h = never h
+      by None r h = absurd cc
       by (Some p) r h = let same : Repeated p ≡ f = cc in inr (y.0, p, (counted_sound reader_laws F m y.0 y.1 e).0, some_repeat y.0 p r, sym same)
 
   -- what a snapshot says: its length, blank or counted
@@ -136,7 +108,7 @@ module _ {T : Type 0} (F : venue.Form T) (m : List ℕ) where
   snapshot_sound s c h = by (ltb (length m) 7) (is_blank_message m) refl h
     where
       by : (a b : Bool) → is_blank_message m ≡ b → ◌≡◌ {A = Reading (Said T)} (cond a (Err WrongLength) (cond b (Ok blank) (listed F m (snapshot_of F m)))) (Ok s) → LaidOut F m s
-      by true b e h = never (sym h)
+      by true b e h = absurd cc
       by false true e h = let same : blank ≡ s = cc in subst (LaidOut F m) same (bytes_same m (codes "S     0") e)
       by false false e h = let k = counted (snapshot_of F m) s refl h in subst (LaidOut F m) (sym k.1) (c, k.2, k.3)
 
@@ -146,7 +118,7 @@ module _ {T : Type 0} (F : venue.Form T) (m : List ℕ) where
     where
       by : (a b : Bool) → ltb (length m) 7 ≡ a → is_blank_message m ≡ b → ◌≡◌ {A = Reading (Said T)} (cond a (Err WrongLength) (cond b (Ok blank) (listed F m (snapshot_of F m)))) (Err f) → SnapshotRefused F m f
       by true b d e h = let same : WrongLength ≡ f = cc in inl (ltb-true (length m) 7 d, sym same)
-      by false true d e h = never h
+      by false true d e h = absurd cc
       by false false d e h = inr (ltb-false (length m) 7 d, (λ k. true≢false (sym (same_bytes m (codes "S     0") k) ∙ e)), stopped (snapshot_of F m) f refl h)
 
   blank_read : Blank m → message_of F m ≡ Ok blank
@@ -187,7 +159,7 @@ module _ {T : Type 0} (F : venue.Form T) (m : List ℕ) where
 
   -- and what is read is laid out
   pub sound : (s : Said T) → message_of F m ≡ Ok s → LaidOut F m s
-  sound s h = elim lettered [ inr n ↦ never (sym h ∙ by_none n) | inl l ↦ by l ]
+  sound s h = elim lettered [ inr n ↦ absurd (cc (by_none n)) | inl l ↦ by l ]
     where
       by : Lettered F m → LaidOut F m s
       by (inl c) = let k = carried (new_of F m) new s (sym (by_new c) ∙ h) in subst (LaidOut F m) k.2 (c, ((layout_laws F).new_exact m k.0).0 k.1)
@@ -203,7 +175,7 @@ module _ {T : Type 0} (F : venue.Form T) (m : List ℕ) where
     modify_fault = λ c. faulted (modify_of F m) modify f (sym (by_modify c) ∙ h);
     cancel_fault = λ c. faulted (cancel_of m) cancel f (sym (by_cancel c) ∙ h);
     snapshot_fault = λ c. snapshot_refused f (sym (by_snapshot c) ∙ h);
-    no_fault = λ c. elim c [ inl t ↦ never (sym (by_trade t) ∙ h) | inr v ↦ never (sym (by_volume v) ∙ h) ];
+    no_fault = λ c. elim c [ inl t ↦ absurd (cc (by_trade t)) | inr v ↦ absurd (cc (by_volume v)) ];
     letter_fault = λ n. let e = sym (by_none n) ∙ h in let same : NoLetter ≡ f = cc in sym same;
   }
 
@@ -225,8 +197,8 @@ exactly {T} F m = record {
   where
     by : (r : Reading (Said T)) → message_of F m ≡ r → (x : Message T) → summed r ≡ Ok x → (s : Said T) × LaidOut F m s × (x ≡ summary s)
     by (Ok s) e x h = let same : summary s ≡ x = cc in (s, sound F m s e, sym same)
-    by (Err f) e x h = never (sym h)
+    by (Err f) e x h = absurd cc
 
     back : (r : Reading (Said T)) (f : MessageFault) → summed r ≡ Err f → r ≡ Err f
-    back (Ok s) f h = never h
+    back (Ok s) f h = absurd cc
     back (Err g) f h = let same : g ≡ f = cc in ap Err same

@@ -1,7 +1,7 @@
 -- What a snapshot does, from what its parts tell.
-use Rattle.std.proofs.Common.{◌≡◌, ℕ, ◌+◌, true, false, cond, leb, List, [], ◌∷◌, length, Some, None, Ok, Err, Option, sym, refl, ap, ◌∙◌, ap₂, arith}
+use Rattle.std.proofs.Common.{◌≡◌, ℕ, ◌+◌, true, false, leb, List, [], ◌∷◌, length, Some, None, Ok, Err, Option, sym, refl, ap, ◌∙◌, ap₂}
 use Rattle.std.specs.List.{AllByRecursion}
-use Rattle.std.proofs.lemmas.Bool.{cond-true, cond-false, or_left, or_right, leb-true, leb-false}
+use Rattle.std.proofs.lemmas.Bool.{cond_both, cond-true, cond-false, or_left, or_right, leb-true, leb-false}
 use Rattle.fields.specs.Values.{Pair}
 use Rattle.book.specs.declared.order.Order.{Order}
 use Rattle.book.specs.declared.ladder.BookFault.TheVariants.{Full}
@@ -33,7 +33,7 @@ module _ {T : Type 0} where
   pub read_listed : (F : venue.Form T) (m : List ℕ) (ms : List (Mark T)) (e : ℕ) → snapshot_of F m ≡ Ok (ms, e) → OfListed ms
   read_listed F m ms e h =
       let x = snapshot_parts F m ms e h in
-      under_listed (pairs_listed ms) ms (λ d k. k) None (λ d k. let z : ◌≡◌ {A = ℕ} 0 1 = cc in absurd (omega arith)) (blocks_under x.count.value ms (marks_in_blocks F m ms e x) None)
+      under_listed (pairs_listed ms) ms (λ d k. k) None (λ d k. absurd cc) (blocks_under x.count.value ms (marks_in_blocks F m ms e x) None)
 
   -- the test of the room, by what was counted
   pub room_test : (capacity stay orders : ℕ) (ms : List (Mark T)) (l : List (Order T)) → stay ≡ length (cleared_all (pairs_listed ms) l) → orders ≡ length (orders_put ms) → leb (stay + orders) capacity ≡ leb (room_needed ms l) capacity
@@ -58,7 +58,7 @@ module _ {T : Type 0} where
 
   pub snapshot_says : (capacity : ℕ) (l : List (Order T)) (ms : List (Mark T)) → Ladder l → Distinct ms → OfListed ms → SnapshotSays l ms capacity (snapshot_after capacity l ms)
   unfolding snapshot_after
-  snapshot_says capacity l ms h d w = (elim (leb (room_needed ms l) capacity) as (λ b. leb (room_needed ms l) capacity ≡ b → SnapshotSays l ms capacity (cond b (Ok (replaced ms l)) (Err (refusal Full 0)))) [
-    | true ↦ λ e. (leb-true _ _ e, replaced_says l ms h d w)
-    | false ↦ λ e. (refl, leb-false _ _ e)
-  ]) refl
+  snapshot_says capacity l ms h d w =
+      cond_both (leb (room_needed ms l) capacity) _ _ (SnapshotSays l ms capacity)
+      (λ t. (leb-true _ _ t, replaced_says l ms h d w))
+      (λ f. (refl, leb-false _ _ f))

@@ -3,3 +3,4 @@ pub mod Meaning
 pub mod Reads
 pub mod Marks
 pub mod Laws
+pub mod Checked

@@ -1,18 +1,16 @@
 -- What the walks over a snapshot find and do, mark by mark.
-use Rattle.std.specs.Prelude.{◌≡◌, ℕ, ◌+◌, ◌^◌, ◌<◌, Bool, true, false, not, List, length, Some, None, Ok, Err, Option, Result}
+use Rattle.std.specs.Prelude.{◌≡◌, ℕ, ◌<◌, Bool, true, false, not, List, [], length, Some, None, Ok, Err, Option}
 use Rattle.std.specs.List.{AllByRecursion}
 use Rattle.fields.specs.Values.{Pair}
 use Rattle.book.specs.declared.order.Order.{Order}
 use Rattle.book.specs.Ladder.{same_pair, stands, placed, cleared}
 use Rattle.venue.specs.Form as venue
-use Rattle.message.specs.declared.fault.MessageFault.{MessageFault}
 use Rattle.snapshot.specs.declared.mark.Mark.{Mark}
 use Rattle.snapshot.specs.declared.mark.Mark.TheVariants.{Lists, Puts}
 use Rattle.snapshot.specs.Scanning.{Scan}
 use Rattle.snapshot.specs.Snapshot.{snapshot_of}
 use Rattle.snapshot.specs.Listing.{pairs_listed, orders_put}
 use Rattle.snapshot.specs.Listing as snapshot
-use Rattle.apply.specs.declared.tasks.Tally.{Tally}
 use Rattle.apply.specs.declared.tasks.Asked.{Asked}
 
 -- some pair of the list is p
@@ -39,9 +37,13 @@ module _ {T : Type 0} where
   abbrev pub OfListed : List (Mark T) → Type 0
   OfListed ms = AllByRecursion (λ (o : Order T). lists (pairs_listed ms) o.pair ≡ true) (orders_put ms)
 
-  -- what is said of what a message lists, where it is a snapshot
-  abbrev pub Told : venue.Form T → List ℕ → (List (Mark T) → Type 0) → Type 0
-  Told F m P = (ms : List (Mark T)) (e : ℕ) → snapshot_of F m ≡ Ok (ms, e) → P ms
+  -- what a snapshot lists and puts, in layout order; nothing where the message is none
+  abbrev pub marks_of : Scan (List (Mark T)) → List (Mark T)
+  marks_of (Ok x) = x.0
+  marks_of (Err f) = []
+
+  abbrev pub marks : venue.Form T → List ℕ → List (Mark T)
+  marks F m = marks_of (snapshot_of F m)
 
   -- the mark lists this pair
   abbrev pub names : Pair → Mark T → Bool
@@ -57,16 +59,3 @@ module _ {T : Type 0} where
   abbrev pub Places : ℕ → Mark T → List (Order T) → List (Order T) → Type 0
   Places capacity (Lists p c) l l' = l' ≡ l
   Places capacity (Puts p o) l l' = stands o.pair o.id l ≡ false → length l < capacity → l' ≡ placed o l
-
-  -- one mark more, where it is still counted
-  abbrev pub Counts : Tally → Mark T → Tally → Type 0
-  Counts s (Lists p c) t = (s.pairs + 1 < 2 ^ 64 → t.pairs ≡ s.pairs + 1) × (t.orders ≡ s.orders)
-  Counts s (Puts p o) t = (t.pairs ≡ s.pairs) × (s.orders + 1 < 2 ^ 64 → t.orders ≡ s.orders + 1)
-
-  -- how many pairs are listed, and how many orders are put; or the fault
-  abbrev pub tally_of : List (Mark T) → Tally
-  tally_of ms = record { pairs = length (pairs_listed ms); orders = length (orders_put ms) }
-
-  abbrev pub tallied : Scan (List (Mark T)) → Result Tally MessageFault
-  tallied (Ok x) = Ok (tally_of x.0)
-  tallied (Err f) = Err f

@@ -1,5 +1,5 @@
 // Any message, by its letter.
-ghost use Rattle.std.specs.Prelude.{◌≡◌, slice_index};
+ghost use Rattle.std.specs.Prelude.{◌≡◌, slice_get};
 ghost use Rattle.apply.specs.Said.{message_of, summed};
 ghost use Rattle.apply.specs.Meaning.{worked, Works};
 ghost use Rattle.apply.specs.Reads.{Exactly};
@@ -11,23 +11,24 @@ use book::Book;
 use message::MessageFault;
 use venue::Venue;
 
-// The first byte, or NUL where there is none.
-fn letter(m: &[u8]) -> char
-    ensures { result ≡ slice_index m.now 0 }
+// The first byte, if there is one.
+fn letter(m: &[u8]) -> Option<char>
+    ensures { result ≡ slice_get m.now 0 }
 {
-    if m.is_empty() { '\0' } else { m[0] as char }
+    m.first().map(|byte| *byte as char)
 }
 
+#[tactic(auto, unfolding(crate::specs::Said::message_of))]
 fn read_any<V: Venue>(m: &[u8]) -> Result<Message<V::Terms>, MessageFault>
     ensures { result ≡ summed (message_of V.form m.now) }
 {
     match letter(m) {
-        'N' => Ok(Message::New(message::read_new::<V>(m)?)),
-        'M' => Ok(Message::Modify(message::read_modify::<V>(m)?)),
-        'X' => Ok(Message::Cancel(message::read_cancel(m)?)),
-        'S' => read_snapshot::<V>(m),
-        'T' => Ok(Message::Trade),
-        'V' => Ok(Message::Volume),
+        Some('N') => Ok(Message::New(message::read_new::<V>(m)?)),
+        Some('M') => Ok(Message::Modify(message::read_modify::<V>(m)?)),
+        Some('X') => Ok(Message::Cancel(message::read_cancel(m)?)),
+        Some('S') => read_snapshot::<V>(m),
+        Some('T') => Ok(Message::Trade),
+        Some('V') => Ok(Message::Volume),
         _ => Err(MessageFault::NoLetter),
     }
 }
@@ -41,6 +42,7 @@ pub fn read<V: Venue>(m: &[u8]) -> Result<Message<V::Terms>, MessageFault>
 }
 
 // The message that these bytes lay out at the venue, applied to the book; or the first fault, and the book as it was.
+#[tactic(auto, unfolding(crate::specs::Said::message_of))]
 pub fn apply<V: Venue, B: Book<V::Terms>>(
     book: &mut B,
     m: &[u8],
@@ -49,12 +51,12 @@ pub fn apply<V: Venue, B: Book<V::Terms>>(
     ensures kept { B.Book.capacity book.new ≡ B.Book.capacity book.old }
 {
     match letter(m) {
-        'N' => work_new::<V, B>(book, m),
-        'M' => work_modify::<V, B>(book, m),
-        'X' => work_cancel::<V, B>(book, m),
-        'S' => work_snapshot::<V, B>(book, m),
-        'T' => Ok(Message::Trade),
-        'V' => Ok(Message::Volume),
+        Some('N') => work_new::<V, B>(book, m),
+        Some('M') => work_modify::<V, B>(book, m),
+        Some('X') => work_cancel::<V, B>(book, m),
+        Some('S') => work_snapshot::<V, B>(book, m),
+        Some('T') => Ok(Message::Trade),
+        Some('V') => Ok(Message::Volume),
         _ => Err(MessageFault::NoLetter),
     }
 }

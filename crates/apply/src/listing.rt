@@ -1,138 +1,132 @@
 // A snapshot applied to a book, all or nothing.
-ghost use Rattle.std.specs.Prelude.{◌≡◌, ◌+◌, ◌≤◌, length, nat_le};
+ghost use Rattle.std.specs.Prelude.{◌≡◌, ◌+◌, ◌≤◌, Ok, length, nat_le};
 ghost use Rattle.book.specs.Ladder.{at_rank};
 ghost use Rattle.snapshot.specs.Snapshot.{snapshot_of};
-ghost use Rattle.snapshot.specs.Repeats.{Distinct};
-ghost use Rattle.snapshot.specs.Listing.{pairs_listed, orders_put, cleared_all, room_needed, replaced};
+ghost use Rattle.snapshot.specs.Checked.{checked};
+ghost use Rattle.snapshot.specs.Listing.{pairs_listed, cleared_all, room_needed, replaced};
 ghost use Rattle.orders.specs.Applied.{Applies};
-ghost use Rattle.apply.specs.Marks.{lists, stays, Right, unlisted, Told, tallied};
+ghost use Rattle.apply.specs.Marks.{lists, stays, Right, unlisted, marks};
 ghost use Rattle.apply.specs.Meaning.{snapshot_after};
 
-use crate::tasks::{Asked, Clearing, Counting, Placing, Seeking, Tally, same_pair};
+use crate::tasks::{Asked, Clearing, Placing, Seeking, same_pair};
 use book::{Book, BookFault, Terms};
 use fields::Pair;
 use message::{BookRefusal, MessageFault};
-use snapshot::visit_marks;
+use snapshot::{Counts, visit_marks};
+use std::marker::PhantomData;
 use venue::Venue;
 
-// How many pairs the snapshot lists and how many orders it puts, or its first fault.
-pub(crate) fn count_listed<V: Venue>(m: &[u8]) -> Result<Tally, MessageFault>
-    ensures { result ≡ tallied (snapshot_of V.form m.now) }
-{
-    let mut tally = Tally {
-        pairs: 0,
-        orders: 0,
-    };
-    visit_marks::<V, Tally, Counting>(m, &mut tally)?;
-    Ok(tally)
-}
-
-// Whether the snapshot lists the pair.
-fn is_listed<V: Venue>(m: &[u8], pair: Pair) -> bool
-    ensures { Told V.form m.now (λ ms. result ≡ lists (pairs_listed ms) pair) }
-{
-    let mut asked = Asked {
-        pair,
-        listed: false,
-    };
-    let _ = visit_marks::<V, Asked, Seeking>(m, &mut asked);
-    asked.listed
-}
-
-// Whether the snapshot lists the pair, by what was asked last if that is the same.
-fn ask<V: Venue>(m: &[u8], pair: Pair, last: Option<Asked>) -> Asked
-    ensures pair { result.pair ≡ pair }
-    ensures right { Told V.form m.now (λ ms. Right (pairs_listed ms) last → result.listed ≡ lists (pairs_listed ms) pair) }
-{
-    if let Some(asked) = last {
-        if same_pair(asked.pair, pair) {
-            return Asked {
-                pair,
-                listed: asked.listed,
-            };
-        }
-    }
-    Asked {
-        pair,
-        listed: is_listed::<V>(m, pair),
-    }
-}
-
-// Whether the snapshot lists the pair of the order at a rank.
-fn ask_at<V: Venue, B: Book<V::Terms>>(
-    m: &[u8],
-    book: &B,
-    rank: usize,
-    last: Option<Asked>,
-) -> Option<Asked>
-    ensures { Told V.form m.now (λ ms. Right (pairs_listed ms) last → Right (pairs_listed ms) result × (unlisted result ≡ stays (pairs_listed ms) (at_rank (B.Book.ladder book.now) rank))) }
-{
-    match book.at(rank) {
-        Some(order) => Some(ask::<V>(m, order.pair, last)),
-        None => None,
-    }
-}
-
-fn is_unlisted(asked: Option<Asked>) -> bool
-    ensures { result ≡ unlisted asked }
-{
-    match asked {
-        Some(asked) => !asked.listed,
-        None => false,
-    }
-}
-
-// How many standing orders are of no pair listed.
-fn kept<V: Venue, B: Book<V::Terms>>(m: &[u8], book: &B) -> usize
-    ensures { Told V.form m.now (λ ms. result ≡ length (cleared_all (pairs_listed ms) (B.Book.ladder book.now))) }
-{
-    let len = book.len();
-    let mut n: usize = 0;
-    let mut last: Option<Asked> = None;
-    for rank in 0..len {
-        last = ask_at::<V, B>(m, book, rank, last);
-        if is_unlisted(last) {
-            n += 1;
-        }
-    }
-    n
+// A snapshot that was checked: its bytes, and how many pairs it lists and how many orders it puts.
+#[derive(Drop)]
+pub(crate) struct Listing<'a, V: Venue> {
+    m: &'a [u8],
+    counts: Counts,
+    venue: PhantomData<V>,
+    ghost was_checked: { checked (snapshot_of V.form m.now) ≡ Ok counts },
 }
 
 // Whether there is room for the orders that stay and those that are put.
 fn has_room(capacity: usize, stay: usize, orders: usize) -> bool
     ensures { result ≡ nat_le (stay + orders) capacity }
 {
-    if stay > capacity {
-        return false;
-    }
-    orders <= capacity - stay
+    capacity
+        .checked_sub(stay)
+        .is_some_and(|left| orders <= left)
 }
 
-// Clears the pairs listed, and places the orders as listed.
-fn replace<V: Venue, B: Book<V::Terms>>(book: &mut B, m: &[u8])
-    ensures ladder { Told V.form m.now (λ ms. Distinct ms → room_needed ms (B.Book.ladder book.old) ≤ B.Book.capacity book.old → B.Book.ladder book.new ≡ replaced ms (B.Book.ladder book.old)) }
-    ensures kept { Told V.form m.now (λ ms. B.Book.capacity book.new ≡ B.Book.capacity book.old) }
+// Whether a pair was asked that is not listed.
+fn is_unlisted(asked: Option<Asked>) -> bool
+    ensures { result ≡ unlisted asked }
 {
-    let _ = visit_marks::<V, B, Clearing>(m, book);
-    let _ = visit_marks::<V, B, Placing>(m, book);
+    asked.is_some_and(|asked| !asked.listed)
 }
 
-// A snapshot that was checked, and that puts so many orders: 33 before any change, or the pairs listed are replaced.
-pub(crate) fn replace_listed<V: Venue, B: Book<V::Terms>>(
-    book: &mut B,
-    m: &[u8],
-    orders: usize,
-) -> Result<(), MessageFault>
-    ensures applied { Told V.form m.now (λ ms. Distinct ms → orders ≡ length (orders_put ms) → Applies (snapshot_after (B.Book.capacity book.old) (B.Book.ladder book.old) ms) (B.Book.ladder book.old) result (B.Book.ladder book.new)) }
-    ensures kept { Told V.form m.now (λ ms. B.Book.capacity book.new ≡ B.Book.capacity book.old) }
-{
-    let stay = kept::<V, B>(m, book);
-    if !has_room(book.capacity(), stay, orders) {
-        return Err(MessageFault::Book(BookRefusal {
-            fault: BookFault::Full,
-            at: 0,
-        }));
+impl<'a, V: Venue> Listing<'a, V> {
+    pub(crate) fn new(m: &'a [u8], counts: Counts) -> Self
+        requires { checked (snapshot_of V.form m.now) ≡ Ok counts }
+        ensures { result.m.now ≡ m.now }
+    {
+        Listing {
+            m,
+            counts,
+            venue: PhantomData,
+        }
     }
-    replace::<V, B>(book, m);
-    Ok(())
+
+    // Whether the snapshot lists the pair.
+    fn lists(&self, pair: Pair) -> bool
+        ensures { result ≡ lists (pairs_listed (marks V.form self.now.m.now)) pair }
+    {
+        let mut asked = Asked {
+            pair,
+            listed: false,
+        };
+        let _ = visit_marks::<V, Asked, Seeking>(self.m, &mut asked);
+        asked.listed
+    }
+
+    // Whether the snapshot lists the pair, by what was asked last if that is the same.
+    fn ask(&self, pair: Pair, last: Option<Asked>) -> Asked
+        ensures pair { result.pair ≡ pair }
+        ensures right { Right (pairs_listed (marks V.form self.now.m.now)) last → result.listed ≡ lists (pairs_listed (marks V.form self.now.m.now)) pair }
+    {
+        match last {
+            Some(asked) if same_pair(asked.pair, pair) => asked,
+            _ => Asked {
+                pair,
+                listed: self.lists(pair),
+            },
+        }
+    }
+
+    // Whether the snapshot lists the pair of the order at a rank.
+    fn ask_at<B: Book<V::Terms>>(&self, book: &B, rank: usize, last: Option<Asked>) -> Option<Asked>
+        ensures right { Right (pairs_listed (marks V.form self.now.m.now)) last → Right (pairs_listed (marks V.form self.now.m.now)) result }
+        ensures stays { Right (pairs_listed (marks V.form self.now.m.now)) last → unlisted result ≡ stays (pairs_listed (marks V.form self.now.m.now)) (at_rank (B.Book.ladder book.now) rank) }
+    {
+        let order = book.at(rank)?;
+        Some(self.ask(order.pair, last))
+    }
+
+    // How many standing orders are of no pair listed.
+    fn kept<B: Book<V::Terms>>(&self, book: &B) -> usize
+        ensures { result ≡ length (cleared_all (pairs_listed (marks V.form self.now.m.now)) (B.Book.ladder book.now)) }
+    {
+        // A loop by rank: a book is asked by rank, and the last answer serves all orders of its pair.
+        let len = book.len();
+        let mut n: usize = 0;
+        let mut last: Option<Asked> = None;
+        for rank in 0..len {
+            last = self.ask_at(book, rank, last);
+            if is_unlisted(last) {
+                n += 1;
+            }
+        }
+        n
+    }
+
+    // Clears the pairs listed, and places the orders as listed.
+    fn replace<B: Book<V::Terms>>(&self, book: &mut B)
+        ensures ladder { room_needed (marks V.form self.now.m.now) (B.Book.ladder book.old) ≤ B.Book.capacity book.old → B.Book.ladder book.new ≡ replaced (marks V.form self.now.m.now) (B.Book.ladder book.old) }
+        ensures kept { B.Book.capacity book.new ≡ B.Book.capacity book.old }
+    {
+        let _ = visit_marks::<V, B, Clearing>(self.m, book);
+        let _ = visit_marks::<V, B, Placing>(self.m, book);
+    }
+
+    // Replaces the pairs listed, or refuses with 33 before any change.
+    pub(crate) fn apply<B: Book<V::Terms>>(&self, book: &mut B) -> Result<(), MessageFault>
+        ensures applied { Applies (snapshot_after (B.Book.capacity book.old) (B.Book.ladder book.old) (marks V.form self.now.m.now)) (B.Book.ladder book.old) result (B.Book.ladder book.new) }
+        ensures kept { B.Book.capacity book.new ≡ B.Book.capacity book.old }
+    {
+        let stay = self.kept(book);
+        if !has_room(book.capacity(), stay, self.counts.orders) {
+            return Err(MessageFault::Book(BookRefusal {
+                fault: BookFault::Full,
+                at: 0,
+            }));
+        }
+        self.replace(book);
+        Ok(())
+    }
 }

@@ -1,4 +1,5 @@
-// Messages on one order, read and applied.
+// Messages on one order, read and applied. The three differ in all three calls: a function that took these as closures would have
+// a contract about closures, and its callers as many lines as these.
 ghost use Rattle.std.specs.Prelude.{◌≡◌};
 ghost use Rattle.message.specs.Reading.{◌▷◌};
 ghost use Rattle.message.specs.Orders.{new_of, modify_of, cancel_of};

@@ -1,11 +1,12 @@
 -- A day's reports and ladder are those that the bytes taken mean, however they were cut.
-use Rattle.std.proofs.Common.{◌≡◌, ℕ, ◌+◌, ◌≤◌, Bool, true, false, cond, eqb, leb, List, [], ◌∷◌, ◌++◌, length, take, None, Option, sym, refl, ap, ◌∙◌, ap₂, append_assoc, append-nil, add-zero, add-one, arith, length-append}
-use Rattle.std.proofs.lemmas.Bool.{cond-true, cond-false, leb-true, le-leb}
+use Rattle.std.proofs.Common.{◌≡◌, ℕ, ◌+◌, ◌≤◌, true, false, cond, eqb, leb, List, [], ◌∷◌, ◌++◌, length, take, None, Option, sym, refl, ap, ◌∙◌, ap₂, append_assoc, append-nil, add-zero, arith, length-append}
+use Rattle.std.proofs.Math.Seq.{take-append-add}
+use Rattle.std.proofs.lemmas.Bool.{cond_both, cond-true, cond-false, leb-true, le-leb}
 use Rattle.book.specs.declared.order.Order.{Order}
 use Rattle.days.specs.declared.state.State.{State}
 use Rattle.days.specs.declared.events.Report.{Report}
 use Rattle.days.specs.Model.{Rules, Lawful, Point, NoLF, worked, by_letter, packets, left, after, reports, reported, next, start, reports_of, point_of}
-use Rattle.days.specs.Day.{Day, begins, takes, writes, asks, Took, beyond, no_end, an_end, Session, kept, over, hold, held_more, finish, Answer, too_many, limit}
+use Rattle.days.specs.Day.{Day, begins, takes, writes, asks, Took, beyond, no_end, an_end, Session, kept, hold, held_more, finish, Answer, too_many, limit}
 use Rattle.days.specs.Theorem.{MeansItsStream, DaysAgree, TakesWithinLimit}
 
 pub packets_++ : (acc xs ys : List ℕ) → packets acc (xs ++ ys) ≡ packets acc xs ++ packets (left acc xs) ys
@@ -38,18 +39,12 @@ packets_one acc xs h =
 pub left_one : (acc xs : List ℕ) → left acc (xs ++ (10 ∷ [])) ≡ []
 left_one acc xs = left_++ acc xs (10 ∷ [])
 
-pub taken_front : (xs ys : List ℕ) → take (length xs + 1) (xs ++ (10 ∷ ys)) ≡ xs ++ (10 ∷ [])
-taken_front [] ys = refl
-taken_front (x ∷ xs) ys = rw add-one (ap (λ t. x ∷ t) (rw add-one at (taken_front xs ys)))
-
 pub hold_more : (bs cs : List ℕ) → held_more (hold bs) cs ≡ hold (bs ++ cs)
-hold_more bs cs = go (leb 49152 (length bs)) refl
-  where
-    go : (b : Bool) → leb 49152 (length bs) ≡ b → held_more (cond b over (kept bs)) cs ≡ hold (bs ++ cs)
-    go true e =
-        let h : 49152 ≤ length bs = leb-true 49152 (length bs) e in
-        sym (cond-true (leb 49152 (length (bs ++ cs))) _ _ (le-leb 49152 _ (simp length-append (omega arith))))
-    go false e = refl
+hold_more bs cs =
+    cond_both (leb 49152 (length bs)) _ _ (λ h. held_more h cs ≡ hold (bs ++ cs))
+    (λ e. let h : 49152 ≤ length bs = leb-true 49152 (length bs) e in
+    sym (cond-true (leb 49152 (length (bs ++ cs))) _ _ (le-leb 49152 _ (simp length-append (omega arith)))))
+    (λ _. refl)
 
 module _ {T : Type 0} (v : Rules T) (capacity : ℕ) where
   pub after_++ : (at : Point T) (ps qs : List (List ℕ)) → after v capacity at (ps ++ qs) ≡ after v capacity (after v capacity at ps) qs
@@ -92,11 +87,10 @@ module _ {T : Type 0} (v : Rules T) (capacity : ℕ) where
 
   module _ (law : Lawful v) where
     pub finish_hold : (s : State) (l : List (Order T)) (bs : List ℕ) → finish v capacity s l (hold bs) ≡ worked v capacity s l bs
-    finish_hold s l bs = go (leb 49152 (length bs)) refl
-      where
-        go : (b : Bool) → leb 49152 (length bs) ≡ b → finish v capacity s l (cond b over (kept bs)) ≡ worked v capacity s l bs
-        go true e = sym (ap (by_letter v capacity s l bs) (law.long bs (leb-true 49152 (length bs) e)))
-        go false e = refl
+    finish_hold s l bs =
+        cond_both (leb 49152 (length bs)) _ _ (λ h. finish v capacity s l h ≡ worked v capacity s l bs)
+        (λ e. sym (ap (by_letter v capacity s l bs) (law.long bs (leb-true 49152 (length bs) e))))
+        (λ _. refl)
 
     end_step : (bs front : List ℕ) (rs : List Report) (s : Session) (l : List (Order T)) (e : Option (List ℕ)) → NoLF front → Follows bs rs s l →
         Follows (bs ++ (front ++ (10 ∷ [])))
@@ -144,7 +138,7 @@ module _ {T : Type 0} (v : Rules T) (capacity : ℕ) where
     follows (takes {bs} {rs} {s} {l} {piece} d (beyond h)) = rw (append-nil, append-nil) (follows d)
     follows (takes {bs} {rs} {s} {l} {piece} d (no_end h nl)) = more_step bs piece rs s l nl (follows d)
     follows (takes {bs} {rs} {s} {l} {piece} d (an_end h front rest e nl)) =
-        let w : take (length front + 1) piece ≡ front ++ (10 ∷ []) = ap (take (length front + 1)) e ∙ taken_front front rest in
+        let w : take (length front + 1) piece ≡ front ++ (10 ∷ []) = ap (take (length front + 1)) e ∙ take-append-add front (10 ∷ rest) 1 in
         rw w (end_step bs front rs s l _ nl (follows d))
     follows (writes d w) = follows d
     follows (asks d q a) = follows d
@@ -152,8 +146,8 @@ module _ {T : Type 0} (v : Rules T) (capacity : ℕ) where
 refused_only : {T : Type 0} (v : Rules T) (capacity : ℕ) (s : Session) (l : List (Order T)) (piece : List ℕ) (a : Answer) (s' : Session) (l' : List (Order T)) → Took v capacity s l piece a s' l' →
     s.taken + length piece ≤ limit → a ≡ too_many → ⊥
 refused_only v capacity s l piece a s' l' (beyond h) le e = omega arith
-refused_only v capacity s l piece a s' l' (no_end h nl) le e = let z : ◌≡◌ {A = ℕ} 0 1 = cc in omega arith
-refused_only v capacity s l piece a s' l' (an_end h front rest p nl) le e = let z : ◌≡◌ {A = ℕ} 0 1 = cc in omega arith
+refused_only v capacity s l piece a s' l' (no_end h nl) le e = cc
+refused_only v capacity s l piece a s' l' (an_end h front rest p nl) le e = cc
 
 module _ {T : Type 0} (v : Rules T) (law : Lawful v) where
   pub means_its_stream : MeansItsStream v

@@ -1,15 +1,14 @@
 -- A day's ladder is in order, has no id twice in a pair, and is within the capacity.
-use Rattle.std.proofs.Common.{◌≡◌, ℕ, ◌≤◌, Bool, true, false, cond, leb, List, [], ◌∷◌, length, Ok, Err, sym, refl, subst, arith}
-use Rattle.std.proofs.lemmas.Bool.{leb-true}
+use Rattle.std.proofs.Common.{◌≡◌, ℕ, ◌≤◌, leb, List, [], ◌∷◌, length, Ok, sym, refl, subst, arith}
+use Rattle.std.proofs.lemmas.Bool.{cond_both, leb-true}
 use Rattle.book.specs.declared.order.Order.{Order}
-use Rattle.book.specs.declared.ladder.BookFault.TheVariants.{Full}
 use Rattle.book.specs.Ladder.{Ladder}
 use Rattle.venue.specs.Form as venue
 use Rattle.message.specs.declared.messages.Cancel.{Cancel}
 use Rattle.message.specs.declared.messages.Modify.{Modify}
 use Rattle.snapshot.specs.declared.mark.Mark.{Mark}
 use Rattle.snapshot.specs.Listing.{room_needed, replaced}
-use Rattle.orders.specs.Applied.{After, refusal, new_after, cancel_after, modify_after}
+use Rattle.orders.specs.Applied.{After, new_after, cancel_after, modify_after}
 use Rattle.orders.specs.Laws.{NewSays, NewDone, CancelSays, CancelDone, ModifySays, ModifyDone}
 use Rattle.orders.proofs.Standings.{new_says, cancel_says, modify_says}
 use Rattle.apply.specs.Said.{Said, new, modify, cancel, listing, blank, trade, volume}
@@ -33,12 +32,10 @@ module _ {T : Type 0} (l l' : List (Order T)) where
 
   pub listing_done : (capacity : ℕ) (ms : List (Mark T)) → message.snapshot_after capacity l ms ≡ Ok l' → (replaced ms l ≡ l') × (room_needed ms l ≤ capacity)
   unfolding message.snapshot_after
-  listing_done capacity ms e = go (leb (room_needed ms l) capacity) refl e
-    where
-      go : (b : Bool) → leb (room_needed ms l) capacity ≡ b → ◌≡◌ {A = After T} (cond b (Ok (replaced ms l)) (Err (refusal Full 0))) (Ok l')
-          → (replaced ms l ≡ l') × (room_needed ms l ≤ capacity)
-      go true eb k = let same : replaced ms l ≡ l' = cc in (same, leb-true (room_needed ms l) capacity eb)
-      go false eb k = let z : ◌≡◌ {A = ℕ} 0 1 = cc in absurd (omega arith)
+  listing_done capacity ms =
+      cond_both (leb (room_needed ms l) capacity) _ _ (λ (a : After T). a ≡ Ok l' → (replaced ms l ≡ l') × (room_needed ms l ≤ capacity))
+      (λ t e. (cc, leb-true (room_needed ms l) capacity t))
+      (λ f e. absurd cc)
 
   pub passed : ◌≡◌ {A = After T} (Ok l) (Ok l') → l ≡ l'
   passed e = cc

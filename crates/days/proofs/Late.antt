@@ -54,7 +54,7 @@ module _ {T : Type 0} (v : Rules T) (law : Lawful v) (capacity : ℕ) where
     where
       go : (w : Worked T) → Did v capacity Waiting [] bs w → w.state ≡ Open → w.ladder ≡ []
       go w (nothing e a) o = e
-      go w (accepts m k e s a) o = let z : ◌≡◌ {A = ℕ} 0 1 = cc in absurd (omega arith)
+      go w (accepts m k e s a) o = absurd cc
 
   -- a snapshot written, worked on an empty ladder
   restores : capacity ≤ 512 → (time : List ℕ) → v.is_time time ≡ true → (l : List (Order T)) → Ladder l → length l ≤ capacity

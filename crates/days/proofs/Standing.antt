@@ -1,13 +1,13 @@
 -- An order stands exactly when the last message accepted that names it puts it.
-use Rattle.std.proofs.Common.{◌≡◌, ℕ, Bool, true, false, cond, ◌&&◌, ◌||◌, List, [], ◌∷◌, Some, None, Ok, Option, unwrap_or, sym, refl, ap, ◌∙◌, subst, ap₂, arith}
+use Rattle.std.proofs.Common.{◌≡◌, ℕ, Bool, true, false, cond, ◌&&◌, ◌||◌, List, [], ◌∷◌, Some, None, Ok, Option, unwrap_or, sym, refl, ap, ◌∙◌, subst, ap₂}
+use Rattle.std.proofs.Math.Bool.{or-false, or_self}
 use Rattle.std.proofs.lemmas.Bool.{both_ways, and_parts, and_from}
 use Rattle.std.specs.Option.{option_map, option_or}
 use Rattle.fields.specs.Values.{Pair, Price, Amount}
-use Rattle.fields.proofs.Sames.{pair_same}
 use Rattle.book.specs.declared.order.Order.{Order}
 use Rattle.book.specs.declared.order.Side.{Side}
 use Rattle.book.specs.Ladder.{OrderId, same_pair, named, lookup, reset}
-use Rattle.book.specs.Orderly.{bytes_same, same_bytes, named_one}
+use Rattle.book.specs.Orderly.{same_bytes, named_one}
 use Rattle.book.specs.Lookups.{lookup_none, lookup_named}
 use Rattle.venue.specs.Form as venue
 use Rattle.message.specs.declared.messages.Cancel.{Cancel}
@@ -19,7 +19,7 @@ use Rattle.orders.specs.Laws.{NewDone, CancelDone, ChangeDone, ModifyDone}
 use Rattle.orders.proofs.Standings.{same_one, one_same, named_self}
 use Rattle.apply.specs.Said.{Said, new, modify, cancel, listing, blank, trade, volume}
 use Rattle.apply.specs.Meaning as message
-use Rattle.apply.proofs.Keeping.{replaced_listed, replaced_others, none_unlisted}
+use Rattle.apply.proofs.Keeping.{pair_one, replaced_listed, replaced_others, none_unlisted}
 use Rattle.days.specs.Model.{Rules, Lawful, Sound, Point, Worked, work, next, after, reports, packets, start}
 use Rattle.days.specs.History.{filled_as, with_price, puts, last_put, last_named, StandsAs, StandsBy, accepting, accepted}
 use Rattle.days.specs.Theorem.{StandsByHistory}
@@ -27,22 +27,19 @@ use Rattle.days.proofs.Chunks.{follows}
 use Rattle.days.proofs.Packets.{Did, nothing, accepts, did}
 use Rattle.days.proofs.Fitting.{Fits, fits_none, new_done, cancel_done, modify_done, listing_done, passed, packet_fits}
 
-pair_one : (q p : Pair) → same_pair q p ≡ true → q ≡ p
-pair_one q p h = pair_same q p (bytes_same q.bytes p.bytes h)
-
 one_pair : (q p : Pair) → q ≡ p → same_pair q p ≡ true
 one_pair q p e = same_bytes q.bytes p.bytes (ap (λ x. x.bytes) e)
 
 -- the target is named, whether it is the replaced id or the active one
 ids_named : (r : Option OrderId) (a i : OrderId) → (ids_agree a i || filled_as r i) ≡ (ids_agree a i || ids_agree (unwrap_or r a) i)
-ids_named None a i = elim (ids_agree a i) as (λ b. (b || false) ≡ (b || b)) [ true ↦ refl | false ↦ refl ]
+ids_named None a i = or-false (ids_agree a i) ∙ sym (or_self (ids_agree a i))
 ids_named (Some j) a i = refl
 
 module _ {T : Type 0} where
   -- the facts of an order that stands
   of_standing : (p : Pair) (i : OrderId) (u : Option (Order T)) (w : Option (Side × Price)) (r : Option (Amount × T)) → StandsAs u p i w r → (o : Order T) → u ≡ Some o
       → (o.pair ≡ p) × (o.id ≡ i) × (w ≡ Some (o.side, o.price))
-  of_standing p i u w None s o e = let z : ◌≡◌ {A = ℕ} 0 1 = cc in absurd (omega arith)
+  of_standing p i u w None s o e = absurd cc
   of_standing p i u w (Some at) s o e =
       let same : s.0 ≡ o = cc in
       (ap (λ x. x.pair) (sym same) ∙ s.2, ap (λ x. x.id) (sym same) ∙ s.3, s.6 ∙ ap (λ x. Some (x.side, x.price)) same)
@@ -114,7 +111,7 @@ module _ {T : Type 0} where
       go false eb None eu = unchanged h l (replaced ms l) s p i (replaced_others l ms ok.0 ok.1 p i eb)
       go false eb (Some o) eu =
           let n = lookup_none p i (orders_put ms) (none_unlisted (pairs_listed ms) p i (orders_put ms) ok.1 eb) in
-          let z : ◌≡◌ {A = ℕ} 0 1 = cc in absurd (omega arith)
+          absurd cc
 
   module _ (F : venue.Form T) (capacity : ℕ) (h : List (Said T)) (l l' : List (Order T)) (f : Fits capacity l) (s : StandsBy h l) where
     -- a message that the ladder takes

@@ -1,7 +1,7 @@
 -- The verdict on a packet's form, worked out from its bytes before the LF; its length counts the LF.
-use Rattle.std.specs.Prelude.{ℕ, zero, suc, ◌+◌, ◌*◌, Bool, cond, not, List, length, Some, None, Ok, Err, Option, Result, ◌==◌, nat_lt, slice_index}
-use Rattle.std.specs.Option.{ok_or, option_or}
-use Rattle.std.specs.Bool.{then_some}
+use Rattle.std.specs.Prelude.{ℕ, ◌+◌, ◌*◌, cond, not, List, Some, None, Ok, Err, Option, Result, ◌==◌, nat_lt, slice_index}
+use Rattle.std.specs.List.{position, range_with_len}
+use Rattle.std.specs.Option.{ok_or}
 use Rattle.fields.specs.Forms.{paired}
 use Rattle.fields.specs.Ranges.{between}
 use Rattle.fields.specs.declared.integers.Integer.{Integer}
@@ -31,11 +31,6 @@ sized n bs r = cond (size bs == n) r (Err WrongLength)
 abbrev pub sized_from : {A : Type 0} → ℕ → List ℕ → Form A → Form A
 sized_from n bs r = cond (nat_lt (size bs) n) (Err WrongLength) r
 
--- the first of the numbers below n at which the test fails
-abbrev pub first_bad : (ℕ → Bool) → ℕ → Option ℕ
-first_bad test zero = None
-first_bad test (suc n) = option_or (first_bad test n) (then_some (not (test n)) n)
-
 -- the fault at k where there is such a k
 abbrev pub unless_at : {A : Type 0} → (ℕ → FormFault) → Option ℕ → Form A → Form A
 unless_at fault None r = r
@@ -53,11 +48,11 @@ letter_for c =
 
 -- the place of the first byte that is not printable
 abbrev pub unprintable : List ℕ → Option ℕ
-unprintable bs = first_bad (λ i. between 32 126 (slice_index bs i)) (length bs)
+unprintable bs = position (λ b. not (between 32 126 b)) bs
 
 -- the first of a directory's n pairs that is not in form
 abbrev pub unpaired : ℕ → List ℕ → Option ℕ
-unpaired n bs = first_bad (λ k. paired (field (5 + 7 * k) 7 bs)) n
+unpaired n bs = position (λ k. not (paired (field (5 + 7 * k) 7 bs))) (range_with_len 0 n)
 
 -- the code of the packet's letter: 11, 12 and 13
 unfoldable pub head_of : List ℕ → Form ℕ
