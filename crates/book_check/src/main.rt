@@ -93,105 +93,6 @@ impl fmt::Display for Shown {
     }
 }
 
-// The answer, the length, and the orders by rank.
-fn print_book(
-    rt: &HostRuntime,
-    answer: Result<(), BookFault>,
-    book: &PackedBook<Mark>,
-) -> anyhow::Result<()> {
-    match answer {
-        Ok(()) => print!(rt; "done")?,
-        Err(fault) => print!(rt; "{}", fault.number())?,
-    }
-    let len = book.len();
-    print!(rt; " {len}:")?;
-    for order in (0..len).filter_map(|rank| book.at(rank)) {
-        print!(rt; " {}", Shown(order))?;
-    }
-    println!(rt)?;
-    Ok(())
-}
-
-fn place(
-    rt: &HostRuntime,
-    book: &mut PackedBook<Mark>,
-    pair: &str,
-    side: Side,
-    n: u32,
-    price: u64,
-) -> anyhow::Result<()> {
-    let order = order_of(pair, side, n, price)?;
-    let answer = book.place(&order);
-    print_book(rt, answer, book)
-}
-
-fn amend(rt: &HostRuntime, book: &mut PackedBook<Mark>, pair: &str, n: u32) -> anyhow::Result<()> {
-    let answer = book.amend(
-        pair_of(pair)?,
-        id_of(n)?,
-        amount_of(250)?,
-        Mark { letter: b'b' },
-    );
-    print_book(rt, answer, book)
-}
-
-fn remove(rt: &HostRuntime, book: &mut PackedBook<Mark>, pair: &str, n: u32) -> anyhow::Result<()> {
-    let answer = book.remove(pair_of(pair)?, id_of(n)?);
-    print_book(rt, answer, book)
-}
-
-fn clear(rt: &HostRuntime, book: &mut PackedBook<Mark>, pair: &str) -> anyhow::Result<()> {
-    book.clear(pair_of(pair)?);
-    print_book(rt, Ok(()), book)
-}
-
-fn print_rank(rt: &HostRuntime, rank: Option<usize>) -> anyhow::Result<()> {
-    match rank {
-        Some(rank) => println!(rt; "rank {rank}")?,
-        None => println!(rt; "none")?,
-    }
-    Ok(())
-}
-
-fn ask_id(rt: &HostRuntime, book: &PackedBook<Mark>, pair: &str, n: u32) -> anyhow::Result<()> {
-    print_rank(rt, book.rank_of(pair_of(pair)?, id_of(n)?))
-}
-
-fn ask_level(
-    rt: &HostRuntime,
-    book: &PackedBook<Mark>,
-    pair: &str,
-    side: Side,
-    price: u64,
-) -> anyhow::Result<()> {
-    print_rank(rt, book.rank_at(pair_of(pair)?, side, price_of(price)?))
-}
-
-fn ask_at(rt: &HostRuntime, book: &PackedBook<Mark>, rank: usize) -> anyhow::Result<()> {
-    match book.at(rank) {
-        Some(order) => println!(rt; " {}", Shown(order))?,
-        None => println!(rt; "none")?,
-    }
-    Ok(())
-}
-
-// An order given another price.
-fn move_to(
-    rt: &HostRuntime,
-    book: &mut PackedBook<Mark>,
-    pair: &str,
-    n: u32,
-    price: u64,
-) -> anyhow::Result<()> {
-    match requote(book, pair_of(pair)?, id_of(n)?, price_of(price)?) {
-        Ok(rank) => {
-            print!(rt; "rank {rank} ")?;
-            print_book(rt, Ok(()), book)
-        }
-        Err(fault) => print_book(rt, Err(fault), book),
-    }
-}
-
 // What a book of this kind and these terms tells of itself when it is made.
 fn capacity_of(heap: Global, slots: usize) -> Result<usize, AllocError>
     ensures { IfOk result (λ n. n ≡ min slots 512) }
@@ -200,60 +101,143 @@ fn capacity_of(heap: Global, slots: usize) -> Result<usize, AllocError>
     Ok(book.capacity())
 }
 
-fn print_made(rt: &HostRuntime, slots: usize, book: &PackedBook<Mark>) -> anyhow::Result<()> {
-    let capacity = capacity_of(rt.alloc(), slots)?;
-    let len = book.len();
-    println!(rt; "slots {slots} capacity {capacity} length {len}")?;
-    Ok(())
+// A packed book that is worked through calls, and the runtime on which their answers are printed.
+#[derive(Drop)]
+struct Trial<'a> {
+    rt: &'a HostRuntime,
+    book: PackedBook<Mark>,
+}
+
+impl<'a> Trial<'a> {
+    fn new(rt: &'a HostRuntime, slots: usize) -> anyhow::Result<Trial<'a>> {
+        let book = PackedBook::<Mark>::new(rt.alloc(), slots)?;
+        let capacity = capacity_of(rt.alloc(), slots)?;
+        println!(rt; "slots {slots} capacity {capacity} length {}", book.len())?;
+        Ok(Trial { rt, book })
+    }
+
+    // The answer, the length, and the orders by rank.
+    fn print(&self, answer: Result<(), BookFault>) -> anyhow::Result<()> {
+        let rt = self.rt;
+        match answer {
+            Ok(()) => print!(rt; "done")?,
+            Err(fault) => print!(rt; "{}", fault.number())?,
+        }
+        let len = self.book.len();
+        print!(rt; " {len}:")?;
+        for order in (0..len).filter_map(|rank| self.book.at(rank)) {
+            print!(rt; " {}", Shown(order))?;
+        }
+        println!(rt)?;
+        Ok(())
+    }
+
+    fn place(&mut self, pair: &str, side: Side, n: u32, price: u64) -> anyhow::Result<()> {
+        let order = order_of(pair, side, n, price)?;
+        let answer = self.book.place(&order);
+        self.print(answer)
+    }
+
+    fn amend(&mut self, pair: &str, n: u32) -> anyhow::Result<()> {
+        let terms = Mark { letter: b'b' };
+        let answer = self
+            .book
+            .amend(pair_of(pair)?, id_of(n)?, amount_of(250)?, terms);
+        self.print(answer)
+    }
+
+    fn remove(&mut self, pair: &str, n: u32) -> anyhow::Result<()> {
+        let answer = self.book.remove(pair_of(pair)?, id_of(n)?);
+        self.print(answer)
+    }
+
+    fn clear(&mut self, pair: &str) -> anyhow::Result<()> {
+        self.book.clear(pair_of(pair)?);
+        self.print(Ok(()))
+    }
+
+    // An order given another price.
+    fn requote(&mut self, pair: &str, n: u32, price: u64) -> anyhow::Result<()> {
+        let answer = requote(&mut self.book, pair_of(pair)?, id_of(n)?, price_of(price)?);
+        if let Ok(rank) = answer {
+            let rt = self.rt;
+            print!(rt; "rank {rank} ")?;
+        }
+        self.print(answer.map(|_| ()))
+    }
+
+    fn print_rank(&self, rank: Option<usize>) -> anyhow::Result<()> {
+        let rt = self.rt;
+        match rank {
+            Some(rank) => println!(rt; "rank {rank}")?,
+            None => println!(rt; "none")?,
+        }
+        Ok(())
+    }
+
+    fn rank_of(&self, pair: &str, n: u32) -> anyhow::Result<()> {
+        self.print_rank(self.book.rank_of(pair_of(pair)?, id_of(n)?))
+    }
+
+    fn rank_at(&self, pair: &str, side: Side, price: u64) -> anyhow::Result<()> {
+        self.print_rank(self.book.rank_at(pair_of(pair)?, side, price_of(price)?))
+    }
+
+    fn at(&self, rank: usize) -> anyhow::Result<()> {
+        let rt = self.rt;
+        match self.book.at(rank) {
+            Some(order) => println!(rt; " {}", Shown(order))?,
+            None => println!(rt; "none")?,
+        }
+        Ok(())
+    }
 }
 
 fn run_smallest(rt: &HostRuntime) -> anyhow::Result<()> {
-    let mut none = PackedBook::<Mark>::new(rt.alloc(), 0)?;
-    print_made(rt, 0, &none)?;
-    place(rt, &mut none, "EUR/USD", Side::Bid, 1, 126_000)?;
-    let mut one = PackedBook::<Mark>::new(rt.alloc(), 1)?;
-    print_made(rt, 1, &one)?;
-    place(rt, &mut one, "EUR/USD", Side::Bid, 1, 126_000)?;
-    place(rt, &mut one, "EUR/USD", Side::Offer, 1, 127_000)?;
-    place(rt, &mut one, "EUR/USD", Side::Bid, 2, 126_000)?;
-    remove(rt, &mut one, "EUR/USD", 2)?;
-    remove(rt, &mut one, "EUR/USD", 1)?;
-    place(rt, &mut one, "EUR/USD", Side::Bid, 2, 126_000)
+    let mut none = Trial::new(rt, 0)?;
+    none.place("EUR/USD", Side::Bid, 1, 126_000)?;
+    let mut one = Trial::new(rt, 1)?;
+    one.place("EUR/USD", Side::Bid, 1, 126_000)?;
+    one.place("EUR/USD", Side::Offer, 1, 127_000)?;
+    one.place("EUR/USD", Side::Bid, 2, 126_000)?;
+    one.remove("EUR/USD", 2)?;
+    one.remove("EUR/USD", 1)?;
+    one.place("EUR/USD", Side::Bid, 2, 126_000)
 }
 
-fn fill_five(rt: &HostRuntime, book: &mut PackedBook<Mark>) -> anyhow::Result<()> {
-    place(rt, book, "USD/JPY", Side::Offer, 4, 9_651_500)?;
-    place(rt, book, "EUR/USD", Side::Bid, 2, 126_000)?;
-    place(rt, book, "EUR/USD", Side::Bid, 8, 127_000)?;
-    place(rt, book, "EUR/USD", Side::Offer, 2, 128_000)?;
-    place(rt, book, "EUR/USD", Side::Bid, 4, 127_000)?;
-    place(rt, book, "EUR/USD", Side::Offer, 5, 128_000)?;
-    place(rt, book, "GBP/USD", Side::Bid, 1, 150_000)?;
-    place(rt, book, "EUR/USD", Side::Bid, 4, 150_000)
+fn fill_five(trial: &mut Trial) -> anyhow::Result<()> {
+    trial.place("USD/JPY", Side::Offer, 4, 9_651_500)?;
+    trial.place("EUR/USD", Side::Bid, 2, 126_000)?;
+    trial.place("EUR/USD", Side::Bid, 8, 127_000)?;
+    trial.place("EUR/USD", Side::Offer, 2, 128_000)?;
+    trial.place("EUR/USD", Side::Bid, 4, 127_000)?;
+    trial.place("EUR/USD", Side::Offer, 5, 128_000)?;
+    trial.place("GBP/USD", Side::Bid, 1, 150_000)?;
+    trial.place("EUR/USD", Side::Bid, 4, 150_000)
 }
 
-fn ask_five(rt: &HostRuntime, book: &PackedBook<Mark>) -> anyhow::Result<()> {
-    ask_id(rt, book, "EUR/USD", 4)?;
-    ask_id(rt, book, "USD/JPY", 4)?;
-    ask_id(rt, book, "USD/JPY", 8)?;
-    ask_level(rt, book, "EUR/USD", Side::Offer, 128_000)?;
-    ask_level(rt, book, "EUR/USD", Side::Bid, 128_000)?;
-    ask_at(rt, book, 4)?;
-    ask_at(rt, book, 5)
+fn ask_five(trial: &Trial) -> anyhow::Result<()> {
+    trial.rank_of("EUR/USD", 4)?;
+    trial.rank_of("USD/JPY", 4)?;
+    trial.rank_of("USD/JPY", 8)?;
+    trial.rank_at("EUR/USD", Side::Offer, 128_000)?;
+    trial.rank_at("EUR/USD", Side::Bid, 128_000)?;
+    trial.at(4)?;
+    trial.at(5)
 }
 
-fn change_five(rt: &HostRuntime, book: &mut PackedBook<Mark>) -> anyhow::Result<()> {
-    amend(rt, book, "EUR/USD", 4)?;
-    amend(rt, book, "GBP/USD", 4)?;
-    move_to(rt, book, "EUR/USD", 8, 126_000)?;
-    move_to(rt, book, "EUR/USD", 9, 126_000)?;
-    remove(rt, book, "EUR/USD", 2)?;
-    remove(rt, book, "EUR/USD", 2)?;
-    place(rt, book, "EUR/USD", Side::Offer, 6, 127_500)?;
-    remove(rt, book, "EUR/USD", 8)?;
-    place(rt, book, "EUR/JPY", Side::Offer, 4, 12_207_300)?;
-    clear(rt, book, "EUR/USD")?;
-    clear(rt, book, "EUR/USD")
+fn change_five(trial: &mut Trial) -> anyhow::Result<()> {
+    trial.amend("EUR/USD", 4)?;
+    trial.amend("GBP/USD", 4)?;
+    trial.requote("EUR/USD", 8, 126_000)?;
+    trial.requote("EUR/USD", 9, 126_000)?;
+    trial.remove("EUR/USD", 2)?;
+    trial.remove("EUR/USD", 2)?;
+    trial.place("EUR/USD", Side::Offer, 6, 127_500)?;
+    trial.remove("EUR/USD", 8)?;
+    trial.place("EUR/JPY", Side::Offer, 4, 12_207_300)?;
+    trial.clear("EUR/USD")?;
+    trial.clear("EUR/USD")
 }
 
 // Two prices in turn, until the book is full.
@@ -269,23 +253,21 @@ fn fill_up(book: &mut PackedBook<Mark>) -> anyhow::Result<u32> {
 }
 
 fn run_full(rt: &HostRuntime, slots: usize) -> anyhow::Result<()> {
-    let mut book = PackedBook::<Mark>::new(rt.alloc(), slots)?;
-    print_made(rt, slots, &book)?;
-    let placed = fill_up(&mut book)?;
+    let mut full = Trial::new(rt, slots)?;
+    let placed = fill_up(&mut full.book)?;
     println!(rt; "placed {placed}")?;
     for rank in [0, 255, 256, 511, 512] {
-        ask_at(rt, &book, rank)?;
+        full.at(rank)?;
     }
-    clear(rt, &mut book, "EUR/USD")
+    full.clear("EUR/USD")
 }
 
 fn run(rt: &HostRuntime) -> anyhow::Result<()> {
     run_smallest(rt)?;
-    let mut five = PackedBook::<Mark>::new(rt.alloc(), 5)?;
-    print_made(rt, 5, &five)?;
-    fill_five(rt, &mut five)?;
-    ask_five(rt, &five)?;
-    change_five(rt, &mut five)?;
+    let mut five = Trial::new(rt, 5)?;
+    fill_five(&mut five)?;
+    ask_five(&five)?;
+    change_five(&mut five)?;
     run_full(rt, 512)?;
     run_full(rt, 600)
 }

@@ -17,7 +17,7 @@ pub(crate) fn quantity_of(count: u64) -> Quantity
     Quantity::from_count(count).unwrap_or_else(no_restriction)
 }
 
-#[tactic(auto, using(crate::specs::Rows::unknown_labelled, fields::proofs::Tests::labelled_decides))]
+#[tactic(auto, using(crate::specs::Rows::unknown_labelled, fields::specs::Tests::labelled_decides))]
 fn unknown_maker() -> Maker
     ensures { result.bytes ≡ unknown }
 {
