@@ -1,7 +1,7 @@
 // A book that keeps the ladder in adjoining slots.
-ghost use Rattle.std.specs.Prelude.{◌≡◌, ◌≤◌, not, vec_len, vec_capacity, nat_le};
+ghost use Rattle.std.specs.Prelude.{◌≡◌, ◌≤◌, vec_len, vec_capacity, nat_le};
 ghost use Rattle.book.specs.Rows.{orders, OfLadder};
-ghost use Rattle.book.specs.RowTests.{AheadOf, row_of_pair};
+ghost use Rattle.book.specs.RowTests.{AheadOf};
 ghost use Rattle.book.specs.Packing.{ladder_sorted, ladder_distinct, orders_fit};
 
 use crate::finder;
@@ -84,11 +84,7 @@ impl<T: Terms> Book<T> for PackedBook<T> {
     }
 
     fn clear(&mut self, pair: Pair) {
-        self.rows.retain(
-            |row|
-                ensures { result ≡ not (row_of_pair pair row.now) }
-            { !row.is_of(&pair) },
-        );
+        self.rows.retain(|row| !row.is_of(&pair));
     }
 
     #[tactic(auto, using(crate::specs::Packing::orders_length))]

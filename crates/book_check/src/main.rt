@@ -39,7 +39,7 @@ fn pair_of(text: &str) -> anyhow::Result<Pair> {
     Pair::read(text.as_bytes()).ok().context("no pair")
 }
 
-// The id of three digits.
+// The id of three digits, one by one: a formatter would want an allocator.
 fn id_of(n: u32) -> anyhow::Result<OrderId> {
     let mut bytes = [b' '; 15];
     bytes[0] = b'0' + (n / 100 % 10) as u8;
