@@ -178,3 +178,12 @@ module _ {T : Type 0} (F : venue.Form T) (m : List ℕ) where
   pub pair_read : (p : ℕ) {c : Pair} {q : ℕ} → field_at m 7 pair_of p ≡ Ok (c, q) → pair_at F m p ≡ (Ok (Lists p c ∷ [], q) ⨟ λ u. side_at F m c Bid u ⨟ λ r. side_at F m c Offer r)
   unfolding pair_at
   pair_read p a = rw a
+
+-- what a loop over n turns keeps and gives
+pub ruleset turns = (turns_all, turns_next, turns_stop, turns_done)
+
+-- what an order's fields give
+pub ruleset order_walks = (walked_one, walked_err, order_read, order_unsized, order_unnamed)
+
+-- one walk and then another
+pub ruleset walks = (walked_err, walked_ok, walked_then, walked_stop)

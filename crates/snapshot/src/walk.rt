@@ -13,7 +13,8 @@ use message::MessageFault;
 use readers::Field;
 use venue::Venue;
 
-// The value at `at`, and the offset after it. An offset and no slice is answered: results are compared as values, which slices are not.
+// The value at `at`, and the offset after it; no slice, since results are compared as values and two equal slices are no equal
+// values.
 #[tactic(auto, unfolding(crate::specs::Scanning::field_at), using(message::proofs::Readings::value_read))]
 fn next<F: Field>(m: &[u8], at: usize) -> Result<(F, usize), MessageFault>
     ensures { result ≡ field_at m.now F.WIDTH F.reads at }
@@ -62,7 +63,7 @@ struct PriceLevel {
 }
 
 // The order at `at`: the offset after it.
-#[tactic(auto, using(crate::proofs::Walks::walked_one, crate::proofs::Walks::walked_err, crate::proofs::Walks::order_read, crate::proofs::Walks::order_unsized, crate::proofs::Walks::order_unnamed))]
+#[tactic(auto, using(crate::proofs::Walks::order_walks))]
 fn order<V: Venue, S, K: Task<V::Terms, S>>(
     m: &[u8],
     state: &mut S,
@@ -89,7 +90,7 @@ fn order<V: Venue, S, K: Task<V::Terms, S>>(
 }
 
 // `n` orders from `at`.
-#[tactic(auto, using(crate::proofs::Walks::turns_all, crate::proofs::Walks::turns_next, crate::proofs::Walks::turns_stop, crate::proofs::Walks::turns_done))]
+#[tactic(auto, using(crate::proofs::Walks::turns))]
 fn orders<V: Venue, S, K: Task<V::Terms, S>>(
     m: &[u8],
     state: &mut S,
@@ -130,7 +131,7 @@ fn level<V: Venue, S, K: Task<V::Terms, S>>(
 }
 
 // `n` prices from `at`.
-#[tactic(auto, using(crate::proofs::Walks::turns_all, crate::proofs::Walks::turns_next, crate::proofs::Walks::turns_stop, crate::proofs::Walks::turns_done))]
+#[tactic(auto, using(crate::proofs::Walks::turns))]
 fn levels<V: Venue, S, K: Task<V::Terms, S>>(
     m: &[u8],
     state: &mut S,
@@ -161,7 +162,7 @@ fn side_of<V: Venue, S, K: Task<V::Terms, S>>(
 }
 
 // The pair at `at`, its bids and its offers.
-#[tactic(auto, unfolding(crate::specs::Snapshot::pair_at), using(crate::proofs::Walks::walked_err, crate::proofs::Walks::walked_ok, crate::proofs::Walks::walked_then, crate::proofs::Walks::walked_stop))]
+#[tactic(auto, unfolding(crate::specs::Snapshot::pair_at), using(crate::proofs::Walks::walks))]
 fn pair_of<V: Venue, S, K: Task<V::Terms, S>>(
     m: &[u8],
     state: &mut S,
@@ -185,7 +186,7 @@ fn pair_of<V: Venue, S, K: Task<V::Terms, S>>(
 }
 
 // `n` pairs from `at`.
-#[tactic(auto, using(crate::proofs::Walks::turns_all, crate::proofs::Walks::turns_next, crate::proofs::Walks::turns_stop, crate::proofs::Walks::turns_done))]
+#[tactic(auto, using(crate::proofs::Walks::turns))]
 fn pairs<V: Venue, S, K: Task<V::Terms, S>>(
     m: &[u8],
     state: &mut S,
