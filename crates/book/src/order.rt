@@ -31,6 +31,7 @@ pub trait Terms: Copy {
 
     ghost given: { Self.Row → Self };
 
+    // No `From`: the law that ties the two is this trait's.
     fn to_row(&self) -> Self::Row
         ensures { result ≡ row self.now };
 

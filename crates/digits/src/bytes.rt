@@ -20,7 +20,8 @@ pub(crate) fn field_end(len: usize, at: usize, width: usize) -> Result<usize, No
         .ok_or(NoRoom)
 }
 
-// Writes a text at `at`.
+// Writes a text at `at`. The buffer and the offset stay two arguments, here and in all that writes: an offset past the end is
+// refused by the call, where a slice from it could not be made.
 pub fn put(out: &mut [u8], at: usize, text: &[u8]) -> Result<(), NoRoom>
     ensures { Puts text.now out.old at result out.new }
 {

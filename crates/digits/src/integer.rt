@@ -30,7 +30,8 @@ fn fill(out: &mut [u8], n: u64)
 }
 
 impl IntegerText {
-    // Writes it, after spaces, at `at`.
+    // Writes it, after spaces, at `at`. It shares the end of the field with the decimals' writer; a closure for what fills the
+    // field would be no plainer.
     pub fn write(&self, out: &mut [u8], at: usize) -> Result<(), NoRoom>
         ensures { Puts (justified self.now.width (figures self.now.value)) out.old at result out.new }
     {

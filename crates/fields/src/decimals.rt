@@ -113,7 +113,8 @@ fn find<K: DecimalKind>(bytes: &[u8]) -> Option<Decimal<K>>
 }
 
 impl<K: DecimalKind> Decimal<K> {
-    // The value whose field the bytes are.
+    // The value whose field the bytes are. No `TryFrom`: bytes are a value in one way here, as a field of the line, and the name
+    // says so.
     pub fn read(bytes: &[u8]) -> Result<Decimal<K>, Fault>
         ensures { Reads K.field (λ (d : Decimal K K.DecimalKind). d.count) bytes.now result }
     {
@@ -136,7 +137,7 @@ impl<K: DecimalKind> Decimal<K> {
         Ok(text.write(out, at)?)
     }
 
-    // The value of this count.
+    // The value of this count. No `TryFrom`, and no `From` for `count`: the names say in which unit the number is.
     pub fn from_count(count: u64) -> Option<Decimal<K>>
         ensures { Makes (λ n. K.may n ≡ true) (λ (d : Decimal K K.DecimalKind). d.count) count result }
     {

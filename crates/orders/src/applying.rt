@@ -1,10 +1,10 @@
 // The messages on one order, applied to a book.
 ghost use Rattle.std.specs.Prelude.{◌≡◌, true, false};
-ghost use Rattle.book.specs.Ladder.{stands, lookup, without, placed};
+ghost use Rattle.book.specs.Ladder.{stands, without, placed};
 ghost use Rattle.orders.specs.Applied.{new_offset, new_after, cancel_after, target, taken, changed, modify_after, Applies};
 
 use crate::naming::{self, ID_AT};
-use book::{Book, BookFault, Order, Side, Terms};
+use book::{Book, BookFault, Order, Side, Terms, standing};
 use fields::{OrderId, Pair};
 use message::{BookRefusal, Cancel, MessageFault, Modify};
 use venue::Venue;
@@ -37,14 +37,6 @@ pub fn apply_cancel<V: Venue, B: Book<V::Terms>>(
     book.remove(cancel.pair, cancel.id)
         .map_err(|fault| BookRefusal { fault, at: ID_AT })?;
     Ok(())
-}
-
-// The standing order of a pair and id.
-#[tactic(auto, using(book::specs::Ladders::finds_stands, book::specs::Lookups::lookup_none, book::specs::Lookups::lookup_rank))]
-fn standing<T: Terms, B: Book<T>>(book: &B, pair: Pair, id: OrderId) -> Option<Order<T>>
-    ensures { result ≡ lookup pair id (B.Book.ladder book.now) }
-{
-    book.at(book.rank_of(pair, id)?)
 }
 
 // Whether the active id is not the target, and stands.

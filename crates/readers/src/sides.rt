@@ -7,7 +7,7 @@ ghost use Rattle.std.proofs.Common.{rules};
 use crate::field::{Field, Filled};
 use book::Side;
 
-// The side of a letter.
+// The side of a letter. No `TryFrom`: it would have to stand with the side, in the book, which knows nothing of messages.
 fn side_of(letter: u8) -> Option<Side>
     ensures { result ≡ side_for letter }
 {
