@@ -1,4 +1,4 @@
-// Any message, by its letter.
+// Any message, by its letter. Book and message stay two arguments of each call: a struct of them would be made for one call.
 ghost use Rattle.std.specs.Prelude.{◌≡◌, slice_get};
 ghost use Rattle.apply.specs.Said.{message_of, summed};
 ghost use Rattle.apply.specs.Meaning.{worked, Works};

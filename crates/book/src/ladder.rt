@@ -20,7 +20,7 @@ pub enum BookFault {
 }
 
 impl BookFault {
-    // The number of the refusal.
+    // The number of the refusal. No `From` for a number: which number it is, is for the name to say.
     pub fn number(&self) -> u8
         ensures { result ≡ number self.now }
     {
@@ -32,6 +32,10 @@ impl BookFault {
     }
 }
 
+// The capacity is a number given once for all, the ladder is what changes. So `kept` stands in each contract, here and above: it
+// ties the value before a call to the one after it, which no ghost field can, and one value of both would be taken apart by every
+// definition. Pair and id, and side and price, stay arguments of their own: a struct of them would be made at each call and
+// taken apart in each clause.
 pub trait Book<T: Terms> {
     ghost capacity: { Self → ℕ };
 

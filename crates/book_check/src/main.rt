@@ -6,7 +6,7 @@ ghost use Rattle.std.proofs.Common.{rules};
 
 use anyhow::Context;
 use book::{Book, BookFault, MadeBook, Order, PackedBook, Side, Terms};
-use fields::{Amount, OrderId, Pair, Price};
+use fields::{Decimal, DecimalKind, OrderId, Pair};
 use quotes::requote;
 use std::alloc::{AllocError, Global};
 use std::fmt;
@@ -48,12 +48,9 @@ fn id_of(n: u32) -> anyhow::Result<OrderId> {
     OrderId::read(&bytes).ok().context("no id")
 }
 
-fn price_of(count: u64) -> anyhow::Result<Price> {
-    Price::from_count(count).context("no price")
-}
-
-fn amount_of(count: u64) -> anyhow::Result<Amount> {
-    Amount::from_count(count).context("no amount")
+// The price or amount of a count, or this error.
+fn decimal_of<K: DecimalKind>(count: u64, missing: &'static str) -> anyhow::Result<Decimal<K>> {
+    Decimal::from_count(count).context(missing)
 }
 
 fn order_of(pair: &str, side: Side, n: u32, price: u64) -> anyhow::Result<Order<Mark>> {
@@ -61,8 +58,8 @@ fn order_of(pair: &str, side: Side, n: u32, price: u64) -> anyhow::Result<Order<
         pair: pair_of(pair)?,
         side,
         id: id_of(n)?,
-        price: price_of(price)?,
-        amount: amount_of(100)?,
+        price: decimal_of(price, "no price")?,
+        amount: decimal_of(100, "no amount")?,
         terms: Mark { letter: b'a' },
     })
 }
@@ -101,7 +98,8 @@ fn capacity_of(heap: Global, slots: usize) -> Result<usize, AllocError>
     Ok(book.capacity())
 }
 
-// A packed book that is worked through calls, and the runtime on which their answers are printed.
+// A packed book that is worked through calls, and the runtime on which their answers are printed. Each call has a pair, an id and
+// a price of its own, so these stay arguments.
 #[derive(Drop)]
 struct Trial<'a> {
     rt: &'a HostRuntime,
@@ -140,9 +138,12 @@ impl<'a> Trial<'a> {
 
     fn amend(&mut self, pair: &str, n: u32) -> anyhow::Result<()> {
         let terms = Mark { letter: b'b' };
-        let answer = self
-            .book
-            .amend(pair_of(pair)?, id_of(n)?, amount_of(250)?, terms);
+        let answer = self.book.amend(
+            pair_of(pair)?,
+            id_of(n)?,
+            decimal_of(250, "no amount")?,
+            terms,
+        );
         self.print(answer)
     }
 
@@ -158,7 +159,12 @@ impl<'a> Trial<'a> {
 
     // An order given another price.
     fn requote(&mut self, pair: &str, n: u32, price: u64) -> anyhow::Result<()> {
-        let answer = requote(&mut self.book, pair_of(pair)?, id_of(n)?, price_of(price)?);
+        let answer = requote(
+            &mut self.book,
+            pair_of(pair)?,
+            id_of(n)?,
+            decimal_of(price, "no price")?,
+        );
         if let Ok(rank) = answer {
             let rt = self.rt;
             print!(rt; "rank {rank} ")?;
@@ -180,7 +186,10 @@ impl<'a> Trial<'a> {
     }
 
     fn rank_at(&self, pair: &str, side: Side, price: u64) -> anyhow::Result<()> {
-        self.print_rank(self.book.rank_at(pair_of(pair)?, side, price_of(price)?))
+        self.print_rank(
+            self.book
+                .rank_at(pair_of(pair)?, side, decimal_of(price, "no price")?),
+        )
     }
 
     fn at(&self, rank: usize) -> anyhow::Result<()> {

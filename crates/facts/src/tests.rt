@@ -1,19 +1,13 @@
 // Examples of fields and packets, read and written.
-use fields::{Amount, Fault, Integer, Maker, OrderId, Pair, Price, Quantity, TimeOfDay};
+use fields::{
+    AmountKind, Decimal, DecimalKind, Fault, Integer, Maker, OrderId, Pair, Price, PriceKind,
+    Quantity, QuantityKind, TimeOfDay,
+};
 use packet::FormFault;
 use std::test::Fail;
 
-// Each of these is one chain; one for all types would take the reader and the count at every call.
-fn price(text: &[u8]) -> Option<u64> {
-    Price::read(text).ok().map(|price| price.count())
-}
-
-fn amount(text: &[u8]) -> Option<u64> {
-    Amount::read(text).ok().map(|amount| amount.count())
-}
-
-fn quantity(text: &[u8]) -> Option<u64> {
-    Quantity::read(text).ok().map(|quantity| quantity.count())
+fn count<K: DecimalKind>(text: &[u8]) -> Option<u64> {
+    Decimal::<K>::read(text).ok().map(|decimal| decimal.count())
 }
 
 fn integer(text: &[u8]) -> Option<u64> {
@@ -26,18 +20,24 @@ fn fault(body: &[u8]) -> Option<FormFault> {
 
 #[test]
 fn numbers(rt: HostRuntime) {
-    assert_eq!(rt; price(b"1.50200   "), Some(150_200));
-    assert_eq!(rt; price(b"9999.99999"), Some(999_999_999));
-    assert_eq!(rt; price(b"0122.0730 "), Some(12_207_300));
-    assert_eq!(rt; price(b"10000     "), None);
-    assert_eq!(rt; price(b"1.5 2     "), None);
-    assert_eq!(rt; price(b" 1.5      "), None);
-    assert_eq!(rt; price(b"1.502    "), None);
-    assert_eq!(rt; amount(b"10000000000000.0"), Some(1_000_000_000_000_000));
-    assert_eq!(rt; amount(b"0.005           "), None);
-    assert_eq!(rt; quantity(b"                "), Some(0));
-    assert_eq!(rt; quantity(b"500000          "), Some(50_000_000));
-    assert_eq!(rt; quantity(b"0.000           "), None);
+    assert_eq!(rt; count::<PriceKind>(b"1.50200   "), Some(150_200));
+    assert_eq!(rt; count::<PriceKind>(b"9999.99999"), Some(999_999_999));
+    assert_eq!(rt; count::<PriceKind>(b"0122.0730 "), Some(12_207_300));
+    assert_eq!(rt; count::<PriceKind>(b"10000     "), None);
+    assert_eq!(rt; count::<PriceKind>(b"1.5 2     "), None);
+    assert_eq!(rt; count::<PriceKind>(b" 1.5      "), None);
+    assert_eq!(rt; count::<PriceKind>(b"1.502    "), None);
+    assert_eq!(rt;
+        count::<AmountKind>(b"10000000000000.0"),
+        Some(1_000_000_000_000_000)
+    );
+    assert_eq!(rt; count::<AmountKind>(b"0.005           "), None);
+    assert_eq!(rt; count::<QuantityKind>(b"                "), Some(0));
+    assert_eq!(rt;
+        count::<QuantityKind>(b"500000          "),
+        Some(50_000_000)
+    );
+    assert_eq!(rt; count::<QuantityKind>(b"0.000           "), None);
 }
 
 #[test]

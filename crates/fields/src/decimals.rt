@@ -53,6 +53,7 @@ pub struct Decimal<K: DecimalKind> {
     ghost ok: { K.may count ≡ true },
 }
 
+// Written out: no derive gives `Clone` to a generic struct with a ghost field.
 impl<K: DecimalKind> Copy for Decimal<K> {}
 
 impl<K: DecimalKind> Clone for Decimal<K> {

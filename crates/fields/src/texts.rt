@@ -30,6 +30,7 @@ pub struct Text<K: TextKind<N>, const N: usize> {
     ghost ok: { K.test bytes ≡ true },
 }
 
+// Written out: no derive gives `Clone` to a generic struct with a ghost field.
 impl<K: TextKind<N>, const N: usize> Copy for Text<K, N> {}
 
 impl<K: TextKind<N>, const N: usize> Clone for Text<K, N> {

@@ -5,7 +5,7 @@ ghost use Rattle.packet.specs.Faults.{number, offset};
 use crate::packets::FormFault;
 
 impl FormFault {
-    // Its number in the table of refusals.
+    // Its number in the table of refusals. No `From` for a number: which number it is, is for the name to say.
     pub fn number(&self) -> u8
         ensures { result ≡ number self.now }
     {

@@ -1,4 +1,5 @@
-// A walk over the bytes of a snapshot, which does a task at each pair and each order in layout order.
+// A walk over the bytes of a snapshot, which does a task at each pair and each order in layout order. Message, state and offset
+// stay arguments of their own: a struct of them would hold a `&mut` that each step has to lend on.
 ghost use Rattle.std.specs.Prelude.{◌≡◌};
 ghost use Rattle.snapshot.specs.Named.{named_at};
 ghost use Rattle.snapshot.specs.Scanning.{field_at, tail_then, times};
