@@ -90,7 +90,8 @@ fn order<V: Venue, S, K: Task<V::Terms, S>>(
     Ok(end)
 }
 
-// `n` orders from `at`.
+// `n` orders from `at`. The loops over orders, prices and pairs stay three: one for all would take the step as a closure that lends
+// the state on.
 #[tactic(auto, using(crate::proofs::Walks::turns))]
 fn orders<V: Venue, S, K: Task<V::Terms, S>>(
     m: &[u8],
