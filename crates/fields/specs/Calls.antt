@@ -27,8 +27,3 @@ Makes May value n None = May n → ⊥
 abbrev pub Writes : {U : Type 0} → List ℕ → List ℕ → ℕ → Result U Fault → List ℕ → Type 0
 Writes text before at (Ok _) after = (at + length text ≤ length before) × (after ≡ take at before ++ (text ++ drop (at + length text) before))
 Writes text before at (Err e) after = (number e ≡ 41) × (length before < at + length text) × (after ≡ before)
-
--- a finder of numbers answers the only one that is such, and 43 exactly where there is none
-abbrev pub Finds : (ℕ → Type 0) → Result ℕ Fault → Type 0
-Finds Is (Ok n) = Is n × ((m : ℕ) → Is m → m ≡ n)
-Finds Is (Err e) = (number e ≡ 43) × ((m : ℕ) → Is m → ⊥)

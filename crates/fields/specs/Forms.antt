@@ -22,7 +22,7 @@ abbrev pub Timed : List ℕ → Type 0
 Timed bs =
     (length bs ≡ 9) × ((i : ℕ) → i < length bs → Digit (slice_index bs i)) × (two bs 0 ≤ 23) × (two bs 2 ≤ 59) × (two bs 4 ≤ 59)
 
--- The same forms as tests: a value keeps its form as a test that is true. proofs/Tests has that each test decides its form.
+-- The same forms as tests: a value keeps its form as a test that is true. specs/Tests has that each test decides its form.
 
 -- the test passes at each number below n
 abbrev pub below : (ℕ → Bool) → ℕ → Bool

@@ -5,8 +5,8 @@ use Rattle.std.specs.Prelude.{◌≡◌, ℕ, ◌^◌, ◌<◌, ◌≤◌, Bool,
 abbrev pub between : ℕ → ℕ → ℕ → Bool
 between least most n = nat_le least n && nat_le n most
 
--- a price, in hundred-thousandths: 0.00001 to 9,999.99999. Clients use its laws in proofs/Ranges; besides these only
--- the reading of a price's count and the examples open it.
+-- a price, in hundred-thousandths: 0.00001 to 9,999.99999. Clients use its laws in specs/Bounds; besides these only
+-- the examples open it.
 unfoldable pub priced : ℕ → Bool
 priced n = between 1 999999999 n
 

@@ -1,5 +1,5 @@
 // Decimals of a fixed width: prices, amounts and quantities.
-ghost use Rattle.std.specs.Prelude.{◌≡◌, ℕ, Bool, ◌≤◌, true, List, replicate, Decides};
+ghost use Rattle.std.specs.Prelude.{◌≡◌, ⊤, ℕ, Bool, ◌≤◌, true, List, replicate, Decides};
 ghost use Rattle.digits.specs.Calls.{Only};
 ghost use Rattle.fields.specs.Calls.{Found, Makes, Reads, Writes};
 ghost use Rattle.fields.specs.Decimals.{Blank, CountText, KindLaws};
@@ -57,6 +57,10 @@ pub struct Decimal<K: DecimalKind> {
 impl<K: DecimalKind> Copy for Decimal<K> {}
 
 impl<K: DecimalKind> Clone for Decimal<K> {
+    ghost is_clone = { λ x y. y ≡ x };
+
+    ghost is_infallible = { λ _. ⊤ };
+
     fn clone(&self) -> Result<Decimal<K>, AllocError> {
         Ok(*self)
     }

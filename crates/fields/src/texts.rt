@@ -1,5 +1,5 @@
 // Fields that are kept as their bytes: labels, pairs and times of day.
-ghost use Rattle.std.specs.Prelude.{◌≡◌, ℕ, Bool, true, List, Decides};
+ghost use Rattle.std.specs.Prelude.{◌≡◌, ⊤, ℕ, Bool, true, List, Decides};
 ghost use Rattle.fields.specs.Calls.{Found, Reads, Writes};
 ghost use Rattle.fields.specs.Texts.{Kept, TextLaws};
 
@@ -34,6 +34,10 @@ pub struct Text<K: TextKind<N>, const N: usize> {
 impl<K: TextKind<N>, const N: usize> Copy for Text<K, N> {}
 
 impl<K: TextKind<N>, const N: usize> Clone for Text<K, N> {
+    ghost is_clone = { λ x y. y ≡ x };
+
+    ghost is_infallible = { λ _. ⊤ };
+
     fn clone(&self) -> Result<Text<K, N>, AllocError> {
         Ok(Text {
             bytes: self.bytes,
