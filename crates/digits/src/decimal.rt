@@ -76,7 +76,8 @@ impl DecimalForm {
     }
 }
 
-// Writes the decimals of `rest` over the first bytes of `out`.
+// Writes the decimals of `rest` over the first bytes of `out`. Places and rest stay arguments with their bounds: `DecimalText` keeps
+// the bounds for callers, and both numbers fall at each step here.
 fn put_decimals(out: &mut [u8], places: usize, rest: u64)
     requires { (length (decimals places rest) ≤ length out.old) × ((rest < 10 ^ places) × (places ≤ 18)) }
     ensures { out.new ≡ overwritten (decimals places rest) out.old }

@@ -44,7 +44,8 @@ pub trait DecimalKind {
     ghost laws: { KindLaws WIDTH PLACES LEAST MOST may field text };
 }
 
-// A decimal of a kind, counted in units of its last place.
+// A decimal of a kind, counted in units of its last place. No `Model`: in the definitions a price is a value within its range, and
+// a number alone would leave that out of every theorem on orders. So it is for texts and integers.
 #[derive_where(PartialEq, Eq, Debug)]
 pub struct Decimal<K: DecimalKind> {
     count: u64,
