@@ -5,14 +5,10 @@ ghost use Rattle.fields.specs.Calls.{Found, Makes, Reads, Writes};
 ghost use Rattle.fields.specs.Decimals.{Blank, CountText, KindLaws};
 ghost use Rattle.fields.specs.Ranges.{between};
 
-use crate::bytes;
 use crate::fault::Fault;
 use digits::{DecimalForm, DecimalText};
 use std::alloc::AllocError;
 use std::marker::PhantomData;
-
-// As many spaces as the widest field has bytes.
-const SPACES: [u8; 18] = [b' '; 18];
 
 // A kind of decimals: how wide its field is, how many places it may have, and which counts of the last place.
 pub trait DecimalKind {
@@ -80,19 +76,11 @@ fn zero_in(bytes: &[u8], width: usize) -> Option<u64>
     }
 }
 
-fn spaces(width: usize) -> &'static [u8]
-    requires { width ≤ 18 }
-    ensures { result.now ≡ replicate width 32 }
-{
-    &SPACES[0..width]
-}
-
 // Writes `width` spaces at `at`.
 fn put_blank(out: &mut [u8], at: usize, width: usize) -> Result<(), Fault>
-    requires { width ≤ 18 }
     ensures { Writes (replicate width 32) out.old at result out.new }
 {
-    bytes::put(out, at, spaces(width))
+    Ok(digits::put_blank(out, at, width)?)
 }
 
 // The count that the bytes write; spaces write 0.
