@@ -62,7 +62,7 @@ impl<K: DecimalKind> Clone for Decimal<K> {
 fn lies_between(least: u64, most: u64, n: u64) -> bool
     ensures { result ≡ between least most n }
 {
-    least <= n && n <= most
+    (least..=most).contains(&n)
 }
 
 // The count 0, where the bytes are `width` spaces.
