@@ -49,7 +49,7 @@ pub struct Decimal<K: DecimalKind> {
     ghost ok: { K.may count ≡ true },
 }
 
-// Written out: no derive gives `Clone` to a generic struct with a ghost field.
+// Written out: no derive gives `Clone` to a struct with a ghost field and a type parameter.
 impl<K: DecimalKind> Copy for Decimal<K> {}
 
 impl<K: DecimalKind> Clone for Decimal<K> {
@@ -65,7 +65,8 @@ fn lies_between(least: u64, most: u64, n: u64) -> bool
     (least..=most).contains(&n)
 }
 
-// The count 0, where the bytes are `width` spaces.
+// The count 0, where the bytes are `width` spaces. The shared part of this test and the one of blank fields in `readers` is
+// `digits::spaces`; one line is left in each.
 fn zero_in(bytes: &[u8], width: usize) -> Option<u64>
     ensures { Only (λ n. Blank width bytes.now × (n ≡ 0)) result }
 {
@@ -102,8 +103,8 @@ fn find<K: DecimalKind>(bytes: &[u8]) -> Option<Decimal<K>>
 }
 
 impl<K: DecimalKind> Decimal<K> {
-    // The value whose field the bytes are. No `TryFrom`: bytes are a value in one way here, as a field of the line, and the name
-    // says so.
+    // The value whose field the bytes are. `read` and `write` are a pair whose contracts are clauses, and a `TryFrom` would hide
+    // that the bytes are a field.
     pub fn read(bytes: &[u8]) -> Result<Decimal<K>, Fault>
         ensures { Reads K.field (λ (d : Decimal K K.DecimalKind). d.count) bytes.now result }
     {
