@@ -1,9 +1,10 @@
 // The test of a space, and bytes put into a buffer.
-ghost use Rattle.std.specs.Prelude.{◌≡◌, ◌+◌, ◌<◌, ◌≤◌, Decides, MatchResult};
+ghost use Rattle.std.specs.Prelude.{◌≡◌, ◌+◌, ◌<◌, ◌≤◌, replicate, Decides, MatchResult};
 ghost use Rattle.digits.specs.Bytes.{Space};
 ghost use Rattle.digits.specs.Calls.{Puts};
 
 use crate::room::NoRoom;
+use crate::runs;
 
 pub fn is_space(b: u8) -> bool
     ensures { Decides result (Space b) }
@@ -27,5 +28,14 @@ pub fn put(out: &mut [u8], at: usize, text: &[u8]) -> Result<(), NoRoom>
 {
     let end = field_end(out.len(), at, text.len())?;
     out[at..end].copy_from_slice(text);
+    Ok(())
+}
+
+// Writes `width` spaces at `at`.
+pub fn put_blank(out: &mut [u8], at: usize, width: usize) -> Result<(), NoRoom>
+    ensures { Puts (replicate width 32) out.old at result out.new }
+{
+    let end = field_end(out.len(), at, width)?;
+    runs::put_spaces(&mut out[at..end]);
     Ok(())
 }

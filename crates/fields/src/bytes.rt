@@ -8,13 +8,13 @@ use crate::fault::Fault;
 pub(crate) fn is_letter(b: u8) -> bool
     ensures { Decides result (Letter b) }
 {
-    b >= b'A' && b <= b'Z'
+    b.is_ascii_uppercase()
 }
 
 pub(crate) fn is_printable(b: u8) -> bool
     ensures { Decides result (Printable b) }
 {
-    b >= 0x20 && b <= 0x7e
+    (0x20..=0x7e).contains(&b)
 }
 
 // Whether all bytes are printable.

@@ -5,14 +5,10 @@ ghost use Rattle.fields.specs.Calls.{Found, Makes, Reads, Writes};
 ghost use Rattle.fields.specs.Decimals.{Blank, CountText, KindLaws};
 ghost use Rattle.fields.specs.Ranges.{between};
 
-use crate::bytes;
 use crate::fault::Fault;
 use digits::{DecimalForm, DecimalText};
 use std::alloc::AllocError;
 use std::marker::PhantomData;
-
-// As many spaces as the widest field has bytes.
-const SPACES: [u8; 18] = [b' '; 18];
 
 // A kind of decimals: how wide its field is, how many places it may have, and which counts of the last place.
 pub trait DecimalKind {
@@ -54,7 +50,7 @@ pub struct Decimal<K: DecimalKind> {
     ghost ok: { K.may count ≡ true },
 }
 
-// Written out: no derive gives `Clone` to a generic struct with a ghost field.
+// Written out: no derive gives `Clone` to a struct with a ghost field and a type parameter.
 impl<K: DecimalKind> Copy for Decimal<K> {}
 
 impl<K: DecimalKind> Clone for Decimal<K> {
@@ -71,10 +67,11 @@ impl<K: DecimalKind> Clone for Decimal<K> {
 fn lies_between(least: u64, most: u64, n: u64) -> bool
     ensures { result ≡ between least most n }
 {
-    least <= n && n <= most
+    (least..=most).contains(&n)
 }
 
-// The count 0, where the bytes are `width` spaces.
+// The count 0, where the bytes are `width` spaces. The shared part of this test and the one of blank fields in `readers` is
+// `digits::spaces`; one line is left in each.
 fn zero_in(bytes: &[u8], width: usize) -> Option<u64>
     ensures { Only (λ n. Blank width bytes.now × (n ≡ 0)) result }
 {
@@ -85,19 +82,11 @@ fn zero_in(bytes: &[u8], width: usize) -> Option<u64>
     }
 }
 
-fn spaces(width: usize) -> &'static [u8]
-    requires { width ≤ 18 }
-    ensures { result.now ≡ replicate width 32 }
-{
-    &SPACES[0..width]
-}
-
 // Writes `width` spaces at `at`.
 fn put_blank(out: &mut [u8], at: usize, width: usize) -> Result<(), Fault>
-    requires { width ≤ 18 }
     ensures { Writes (replicate width 32) out.old at result out.new }
 {
-    bytes::put(out, at, spaces(width))
+    Ok(digits::put_blank(out, at, width)?)
 }
 
 // The count that the bytes write; spaces write 0.
@@ -119,8 +108,8 @@ fn find<K: DecimalKind>(bytes: &[u8]) -> Option<Decimal<K>>
 }
 
 impl<K: DecimalKind> Decimal<K> {
-    // The value whose field the bytes are. No `TryFrom`: bytes are a value in one way here, as a field of the line, and the name
-    // says so.
+    // The value whose field the bytes are. `read` and `write` are a pair whose contracts are clauses, and a `TryFrom` would hide
+    // that the bytes are a field.
     pub fn read(bytes: &[u8]) -> Result<Decimal<K>, Fault>
         ensures { Reads K.field (λ (d : Decimal K K.DecimalKind). d.count) bytes.now result }
     {

@@ -33,7 +33,7 @@ fn find<const W: usize>(bytes: &[u8]) -> Option<Integer<W>>
 }
 
 impl<const W: usize> Integer<W> {
-    // The integer whose field the bytes are.
+    // The integer whose field the bytes are. No `TryFrom`, as for decimals: see there.
     pub fn read(bytes: &[u8]) -> Result<Integer<W>, Fault>
         ensures { Reads (IntegerField W) (λ (n : Integer W). n.value) bytes.now result }
     {
@@ -51,7 +51,7 @@ impl<const W: usize> Integer<W> {
         Ok(text.write(out, at)?)
     }
 
-    // The integer of this value.
+    // The integer of this value. No `TryFrom`, and no `From` for `value`: they are a pair whose contracts are clauses.
     pub fn from_value(value: u64) -> Option<Integer<W>>
         ensures { Makes (IntegerValue W) (λ (n : Integer W). n.value) value result }
     {

@@ -30,7 +30,8 @@ pub struct Text<K: TextKind<N>, const N: usize> {
     ghost ok: { K.test bytes ≡ true },
 }
 
-// Written out: no derive gives `Clone` to a generic struct with a ghost field.
+// Written out: no derive gives `Clone` to a struct with a ghost field and a type parameter. `Ok(*self)`, as decimals have it, was
+// tried: the check does not cover that copy out of a reference for this struct.
 impl<K: TextKind<N>, const N: usize> Copy for Text<K, N> {}
 
 impl<K: TextKind<N>, const N: usize> Clone for Text<K, N> {
@@ -61,7 +62,7 @@ fn find<K: TextKind<N>, const N: usize>(bytes: &[u8]) -> Option<Text<K, N>>
 }
 
 impl<K: TextKind<N>, const N: usize> Text<K, N> {
-    // The text whose field the bytes are.
+    // The text whose field the bytes are. No `TryFrom`, as for decimals: see there.
     pub fn read(bytes: &[u8]) -> Result<Text<K, N>, Fault>
         ensures { Reads (Kept K.form) (λ (t : Text K N K.TextKind). t.bytes) bytes.now result }
     {
@@ -75,7 +76,7 @@ impl<K: TextKind<N>, const N: usize> Text<K, N> {
         bytes::put(out, at, &self.bytes)
     }
 
-    // Its bytes.
+    // Its bytes. No `From` for them: it would hide that they are a field.
     pub fn bytes(&self) -> [u8; N]
         ensures { result ≡ self.now.bytes }
     {

@@ -18,7 +18,7 @@ pub fn first_unprintable(body: &[u8]) -> Option<usize>
         (λ at. (at < length body.now) × (Printable (slice_index body.now at) → ⊥) × PrintableTo body.now at) }
 {
     for (i, b) in body.iter().enumerate() {
-        if *b < 0x20 || *b > 0x7e {
+        if !(0x20..=0x7e).contains(b) {
             return Some(i);
         }
     }

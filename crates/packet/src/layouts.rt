@@ -1,4 +1,4 @@
-// The readers of the layouts. Each looks at the bytes after the letter.
+// The readers of the layouts. Each gets the letter's byte too, at 0, and reads the fields behind it.
 ghost use Rattle.std.specs.Prelude.{◌≡◌, length, MatchResult, ◌≢◌};
 ghost use Rattle.packet.specs.Verdict.{Matches};
 
@@ -43,7 +43,7 @@ fn sequenced(body: &[u8]) -> Result<Packet, FormFault>
         .map_err(|_| FormFault::BadField(1))
 }
 
-// The packet of this letter that the bytes after the letter lay out.
+// The packet of this letter that the bytes, the letter's among them, lay out.
 pub fn layout(letter: char, body: &[u8]) -> Result<Packet, FormFault>
     ensures { Matches letter body.now result }
 {

@@ -26,5 +26,5 @@ pub fn read(body: &[u8]) -> Result<Packet, FormFault>
 pub fn message(body: &[u8]) -> &[u8]
     ensures { result.now ≡ drop 10 body.now }
 {
-    &body[body.len().min(10)..]
+    body.get(10..).unwrap_or(&[])
 }
