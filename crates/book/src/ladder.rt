@@ -12,11 +12,11 @@ use std::alloc::{AllocError, Global};
 #[derive(Clone, Copy, PartialEq, Eq, Debug)]
 pub enum BookFault {
     // No order of the pair has the id.
-    NotStanding,
+    NotStanding = 31,
     // An order of the pair has the id already.
-    Standing,
+    Standing = 32,
     // The ladder is as long as the capacity.
-    Full,
+    Full = 33,
 }
 
 impl BookFault {
@@ -24,18 +24,14 @@ impl BookFault {
     pub fn number(&self) -> u8
         ensures { result ≡ number self.now }
     {
-        match self {
-            BookFault::NotStanding => 31,
-            BookFault::Standing => 32,
-            BookFault::Full => 33,
-        }
+        *self as u8
     }
 }
 
-// The capacity is a number given once for all, the ladder is what changes. So `kept` stands in each contract, here and above: it
-// ties the value before a call to the one after it, which no ghost field can, and one value of both would be taken apart by every
-// definition. Pair and id, and side and price, stay arguments of their own: a struct of them would be made at each call and
-// taken apart in each clause.
+// The capacity is given once for all, and every definition takes it as a number; the ladder is what changes. So `kept` stands in
+// each contract, here and above: it ties the value before a call to the one after it, which no ghost field can.
+// Pair and id stay two arguments, and so do side and price: the contracts and definitions speak of a pair and an id, and a struct
+// would be built at each call only to be read field by field.
 pub trait Book<T: Terms> {
     ghost capacity: { Self → ℕ };
 

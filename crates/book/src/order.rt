@@ -22,8 +22,8 @@ impl fmt::Display for Side {
     }
 }
 
-// What an order carries besides its common fields. Terms lie in tables as plain rows: any row gives terms, and the row of
-// terms gives them back.
+// What an order carries besides its common fields. By the project's rule values lie in slots, and in any other table, as plain
+// rows, so terms have a row of their own: any row gives some terms, and the row of terms gives back those terms.
 pub trait Terms: Copy {
     type Row: Copy;
 

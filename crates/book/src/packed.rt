@@ -12,8 +12,8 @@ use crate::rows::reset_row;
 use fields::{Amount, OrderId, Pair, Price};
 use std::alloc::{AllocError, Global};
 
-// The first `slots` places of the rows' memory are the book's slots. The last fact says that the rows are those of a
-// ladder.
+// The first `slots` places of the rows' memory are the book's slots. Their number stands beside the rows, since a Vec may hold more
+// room than was asked for, and the capacity is the number asked. The last fact says that the rows are those of a ladder.
 #[derive(Drop)]
 pub struct PackedBook<T: Terms> {
     rows: Vec<Row<T::Row>>,

@@ -1,4 +1,5 @@
-// The plain row of an order, as it lies in a slot.
+// The plain row of an order, as it lies in a slot. It stands beside `Order` by the project's rule for every kind of book and any
+// other table: values lie there as plain rows of bytes and numbers, and a value is made again from its row after a check.
 use crate::order::Side;
 
 #[derive(Clone, Copy)]

@@ -10,6 +10,7 @@ use fields::{Decimal, DecimalKind, OrderId, Pair};
 use quotes::requote;
 use std::alloc::{AllocError, Global};
 use std::fmt;
+use std::io::Write;
 
 // Terms of one letter.
 #[derive(Clone, Copy)]
@@ -39,12 +40,10 @@ fn pair_of(text: &str) -> anyhow::Result<Pair> {
     Pair::read(text.as_bytes()).ok().context("no pair")
 }
 
-// The id of three digits, one by one: a formatter would want an allocator.
+// The id of a number below 1000, as three digits.
 fn id_of(n: u32) -> anyhow::Result<OrderId> {
     let mut bytes = [b' '; 15];
-    bytes[0] = b'0' + (n / 100 % 10) as u8;
-    bytes[1] = b'0' + (n / 10 % 10) as u8;
-    bytes[2] = b'0' + (n % 10) as u8;
+    write!(&mut bytes[..3], "{n:03}")?;
     OrderId::read(&bytes).ok().context("no id")
 }
 
@@ -90,7 +89,7 @@ impl fmt::Display for Shown {
     }
 }
 
-// What a book of this kind and these terms tells of itself when it is made.
+// Makes a book of so many slots and gives the capacity that it tells; the contract follows from the book's promises alone.
 fn capacity_of(heap: Global, slots: usize) -> Result<usize, AllocError>
     ensures { IfOk result (λ n. n ≡ min slots 512) }
 {

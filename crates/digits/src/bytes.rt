@@ -13,7 +13,7 @@ pub fn is_space(b: u8) -> bool
 }
 
 // Where a field of `width` bytes ends that begins at `at` of a buffer of `len` bytes.
-pub(crate) fn field_end(len: usize, at: usize, width: usize) -> Result<usize, NoRoom>
+pub fn field_end(len: usize, at: usize, width: usize) -> Result<usize, NoRoom>
     ensures { MatchResult result (λ end. (end ≡ at + width) × (end ≤ len)) (λ _. len < at + width) }
 {
     at.checked_add(width)

@@ -8,7 +8,7 @@ mod room;
 mod runs;
 mod texts;
 
-pub use bytes::{is_space, put, put_blank};
+pub use bytes::{field_end, is_space, put, put_blank};
 pub use integer::read_integer;
 pub use room::NoRoom;
 pub use runs::spaces;

@@ -2,7 +2,6 @@
 ghost use Rattle.venue.specs.Basic.{basic_form};
 
 use crate::kind::Venue;
-use crate::room::check_room;
 use crate::terms::NoTerms;
 use fields::Fault;
 
@@ -36,6 +35,7 @@ impl Venue for BasicEcn {
     }
 
     fn write(terms: &NoTerms, out: &mut [u8], at: usize) -> Result<(), Fault> {
-        check_room(out, at, 0)
+        digits::field_end(out.len(), at, 0)?;
+        Ok(())
     }
 }

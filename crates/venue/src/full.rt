@@ -5,12 +5,12 @@ ghost use Rattle.fields.specs.Fields.{quantity_text};
 ghost use Rattle.venue.specs.Full.{full_form, limits, quantity_from};
 
 use crate::kind::Venue;
-use crate::room::check_room;
 use crate::terms::Limits;
 use fields::{Fault, Quantity};
 use readers::Field;
 
-// The bytes of a quantity.
+// The bytes of a quantity: a number, since the language takes no constant of a trait, as `<Quantity as Field>::WIDTH`, in the value
+// of a constant.
 const WIDTH: usize = 16;
 
 // Where the minimum quantity stands in the tail.
@@ -41,7 +41,7 @@ fn limits_of(min: Option<Quantity>, lot: Option<Quantity>) -> Result<Limits, usi
 fn write_both(first: &Quantity, second: &Quantity, out: &mut [u8], at: usize) -> Result<(), Fault>
     ensures { Writes (quantity_text first.now.count ++ quantity_text second.now.count) out.old at result out.new }
 {
-    check_room(out, at, 2 * WIDTH)?;
+    digits::field_end(out.len(), at, 2 * WIDTH)?;
     first.write(out, at)?;
     second.write(out, at + WIDTH)
 }

@@ -6,7 +6,6 @@ mod full;
 mod kind;
 pub mod laws;
 mod link;
-mod room;
 mod rows;
 mod terms;
 

@@ -16,7 +16,7 @@ impl Venue for LinkDirect {
     ghost form = { link_form };
 
     fn width() -> usize {
-        16
+        <Maker as Field>::WIDTH
     }
 
     fn priced() -> bool {
