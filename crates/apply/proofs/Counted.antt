@@ -14,7 +14,7 @@ use Rattle.snapshot.specs.Listing.{pairs_listed, orders_put}
 use Rattle.snapshot.specs.Checked.{told, checked}
 use Rattle.apply.specs.Marks.{marks_of, marks}
 use Rattle.apply.specs.Checked.{Counted, Checked}
-use Rattle.apply.specs.Said.{listing, blank, is_blank_message, listed, unrepeated, snapshot_said}
+use Rattle.apply.specs.Said.{blank, is_blank_message, listed, unrepeated, snapshot_said}
 
 module _ {T : Type 0} (F : venue.Form T) (m : List ℕ) where
   pub short_so : length m < 7 → snapshot_said F m ≡ Err WrongLength

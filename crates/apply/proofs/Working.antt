@@ -1,13 +1,13 @@
 -- What is worked of a message, from what was read of it and what the book did.
-use Rattle.std.proofs.Common.{◌≡◌, ℕ, ◌==◌, Bool, true, false, eqb, List, get_or, Ok, Err, Result, sym, refl, ap, ◌∙◌, subst, eqb-true}
+use Rattle.std.proofs.Common.{◌≡◌, ℕ, true, false, eqb, List, get_or, Ok, Err, Result, sym, refl, ap, ◌∙◌, subst, eqb-true}
 use Rattle.book.specs.declared.order.Order.{Order}
 use Rattle.venue.specs.Form as venue
 use Rattle.message.specs.declared.fault.MessageFault.{MessageFault}
 use Rattle.message.specs.Reading.{Reading, ◌▷◌}
 use Rattle.orders.specs.Applied.{Applies}
 use Rattle.apply.specs.declared.messages.Message.{Message}
-use Rattle.apply.specs.Said.{Said, new, modify, cancel, listing, blank, trade, volume, LaidOut, summary, summed, snapshot_said, message_of}
-use Rattle.apply.specs.Meaning.{after, after_told, with_ladder, worked, Works}
+use Rattle.apply.specs.Said.{Said, new, modify, cancel, listing, blank, trade, volume, LaidOut, summary, summed, said_by, snapshot_said, message_of}
+use Rattle.apply.specs.Meaning.{after, with_ladder, worked, Works}
 use Rattle.apply.proofs.Saying.{message_laws, by_snapshot}
 
 module _ {T : Type 0} (F : venue.Form T) (m : List ℕ) (capacity : ℕ) (l l' : List (Order T)) where
@@ -27,31 +27,28 @@ module _ {T : Type 0} (F : venue.Form T) (m : List ℕ) (capacity : ℕ) (l l' :
       by (Err g) e = (e, k)
 
   module _ (no : eqb (get_or m 0 0) 83 ≡ false) where
-    -- any other message does what is told of it
-    as_told : (s : Said T) → LaidOut F m s → after F capacity l s ≡ after_told F capacity l (summary s)
-    as_told (new o) h = refl
-    as_told (modify x) h = refl
-    as_told (cancel x) h = refl
-    as_told (listing ms) h = absurd (let c : get_or m 0 0 ≡ 83 = h.0 in cc)
-    as_told blank h = refl
-    as_told trade h = refl
-    as_told volume h = refl
+    -- any other message says what is told of it
+    by_summary : (s : Said T) → LaidOut F m s → s ≡ said_by (summary s)
+    by_summary (new o) h = refl
+    by_summary (modify x) h = refl
+    by_summary (cancel x) h = refl
+    by_summary (listing ms) h = absurd (let c : get_or m 0 0 ≡ 83 = h.0 in cc)
+    by_summary blank h = refl
+    by_summary trade h = refl
+    by_summary volume h = refl
 
-    read : (y : Message T) → Ok y ≡ summed (message_of F m) → (s : Said T) × (message_of F m ≡ Ok s) × (y ≡ summary s) × (after F capacity l s ≡ after_told F capacity l y)
-    read y e = by (message_of F m) refl e
+    said : (y : Message T) → Ok y ≡ summed (message_of F m) → message_of F m ≡ Ok (said_by y)
+    said y e = by (message_of F m) refl e
       where
-        by : (x : Reading (Said T)) → message_of F m ≡ x → Ok y ≡ summed x → (s : Said T) × (message_of F m ≡ Ok s) × (y ≡ summary s) × (after F capacity l s ≡ after_told F capacity l y)
-        by (Ok s) k e =
-            let same : y ≡ summary s = cc in
-            (s, k, same, as_told s ((message_laws F).sound m s k) ∙ ap (after_told F capacity l) (sym same))
+        by : (x : Reading (Said T)) → message_of F m ≡ x → Ok y ≡ summed x → message_of F m ≡ Ok (said_by y)
+        by (Ok s) k e = let same : summary s ≡ y = cc in k ∙ ap Ok (by_summary s ((message_laws F).sound m s k) ∙ ap said_by same)
         by (Err g) k e = absurd cc
 
-    pub works_told : (y : Message T) → Ok y ≡ summed (message_of F m) → Applies (after_told F capacity l y) l (Ok tt) l' → Works (worked F capacity l m) l (Ok y) l'
+    pub works_told : (y : Message T) → Ok y ≡ summed (message_of F m) → Applies (after F capacity l (said_by y)) l (Ok tt) l' → Works (worked F capacity l m) l (Ok y) l'
     works_told y e a =
-        let x = read y e in
-        subst (λ z. Works (z ▷ then) l (Ok y) l') (sym x.1) (subst (λ z. Works (with_ladder F capacity l x.0 z) l (Ok y) l') (sym (x.3 ∙ a)) (ap Ok x.2, refl))
+        let k = said y e in
+        subst (λ x. Works (x ▷ then) l (Ok y) l') (sym k) (subst (λ x. Works (with_ladder F capacity l (said_by y) x) l (Ok y) l') (sym a) (e ∙ ap summed k, refl))
 
-    pub works_refused : (y : Message T) (f : MessageFault) → Ok y ≡ summed (message_of F m) → Applies (after_told F capacity l y) l (Err f) l' → Works (worked F capacity l m) l (Err f) l'
+    pub works_refused : (y : Message T) (f : MessageFault) → Ok y ≡ summed (message_of F m) → Applies (after F capacity l (said_by y)) l (Err f) l' → Works (worked F capacity l m) l (Err f) l'
     works_refused y f e a =
-        let x = read y e in
-        subst (λ z. Works (z ▷ then) l (Err f) l') (sym x.1) (subst (λ z. Works (with_ladder F capacity l x.0 z) l (Err f) l') (sym (x.3 ∙ a.1)) (ap Err a.2, a.3))
+        subst (λ x. Works (x ▷ then) l (Err f) l') (sym (said y e)) (subst (λ x. Works (with_ladder F capacity l (said_by y) x) l (Err f) l') (sym a.1) (ap Err a.2, a.3))

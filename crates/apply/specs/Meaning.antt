@@ -10,7 +10,6 @@ use Rattle.snapshot.specs.declared.mark.Mark.{Mark}
 use Rattle.snapshot.specs.Listing.{room_needed, replaced}
 use Rattle.orders.specs.Applied.{After, refusal, new_after, cancel_after, modify_after}
 use Rattle.apply.specs.declared.messages.Message.{Message}
-use Rattle.apply.specs.declared.messages.Message.TheVariants.{New, Modify, Cancel, Snapshot, Trade, Volume}
 use Rattle.apply.specs.Said.{Said, new, modify, cancel, listing, blank, trade, volume, message_of, summary}
 
 -- a snapshot: 33 at the message's first byte unless there is room for the orders that stay and those that are put;
@@ -28,15 +27,6 @@ module _ {T : Type 0} (F : venue.Form T) (capacity : ℕ) (l : List (Order T)) w
   after blank = Ok l
   after trade = Ok l
   after volume = Ok l
-
-  -- the same by what is told of a message; a snapshot is told by a number alone, and what it does is said above
-  abbrev pub after_told : Message T → After T
-  after_told (New o) = new_after capacity l o
-  after_told (Modify x) = modify_after F l x
-  after_told (Cancel x) = cancel_after l x
-  after_told (Snapshot n) = Ok l
-  after_told Trade = Ok l
-  after_told Volume = Ok l
 
   abbrev pub with_ladder : Said T → After T → Reading (Said T × List (Order T))
   with_ladder s (Ok l') = Ok (s, l')

@@ -1,8 +1,8 @@
 // Any message: its first byte is its letter, which says how the rest is read.
 ghost use Rattle.std.specs.Prelude.{◌≡◌, ◌==◌, slice_get, slice_index};
 ghost use Rattle.orders.specs.Applied.{Applies};
-ghost use Rattle.apply.specs.Said.{message_of, summed};
-ghost use Rattle.apply.specs.Meaning.{after_told, worked, Works};
+ghost use Rattle.apply.specs.Said.{message_of, said_by, summed};
+ghost use Rattle.apply.specs.Meaning.{after, worked, Works};
 ghost use Rattle.apply.specs.Reads.{Exactly};
 
 use crate::messages::Message;
@@ -45,15 +45,15 @@ pub fn read<V: Venue>(m: &[u8]) -> Result<Message<V::Terms>, MessageFault>
 fn is_snapshot(m: &[u8]) -> bool
     ensures { result ≡ (slice_index m.now 0 == 83) }
 {
-    matches!(letter(m), Some('S'))
+    letter(m) == Some('S')
 }
 
-// Does to the book what the message says. A snapshot does nothing here: its number of pairs does not say which they are.
+// Does to the book what the message says. A snapshot does nothing here: how many pairs it lists does not say which.
 fn carry_out<V: Venue, B: Book<V::Terms>>(
     book: &mut B,
     message: &Message<V::Terms>,
 ) -> Result<(), MessageFault>
-    ensures applied { Applies (after_told V.form (B.Book.capacity book.old) (B.Book.ladder book.old) message.now) (B.Book.ladder book.old) result (B.Book.ladder book.new) }
+    ensures applied { Applies (after V.form (B.Book.capacity book.old) (B.Book.ladder book.old) (said_by message.now)) (B.Book.ladder book.old) result (B.Book.ladder book.new) }
     ensures kept { B.Book.capacity book.new ≡ B.Book.capacity book.old }
 {
     match message {
@@ -76,7 +76,7 @@ pub fn apply<V: Venue, B: Book<V::Terms>>(
     if is_snapshot(m) {
         return work_snapshot::<V, B>(book, m);
     }
-    let message = read_any::<V>(m)?;
+    let message = read::<V>(m)?;
     carry_out::<V, B>(book, &message)?;
     Ok(message)
 }
