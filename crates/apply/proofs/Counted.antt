@@ -1,12 +1,10 @@
--- What a checked snapshot says, and what is worked of it.
+-- What a checked snapshot says.
 use Rattle.std.proofs.Common.{◌≡◌, ℕ, ◌<◌, ◌≤◌, true, false, List, [], length, Some, None, Ok, Err, Option, Result, sym, refl, ap, ◌∙◌, subst}
 use Rattle.std.specs.Result.{result_map_both}
 use Rattle.std.proofs.lemmas.Bool.{lt-ltb, le-ltb}
-use Rattle.book.specs.declared.order.Order.{Order}
 use Rattle.venue.specs.Form as venue
 use Rattle.message.specs.declared.fault.MessageFault.{MessageFault}
 use Rattle.message.specs.declared.fault.MessageFault.TheVariants.{WrongLength, Repeated}
-use Rattle.message.specs.Reading.{Reading, ◌▷◌}
 use Rattle.snapshot.specs.declared.mark.Mark.{Mark}
 use Rattle.snapshot.specs.declared.checks.Counts.{Counts}
 use Rattle.snapshot.specs.Scanning.{Scan}
@@ -14,13 +12,9 @@ use Rattle.snapshot.specs.Snapshot.{snapshot_of}
 use Rattle.snapshot.specs.Repeats.{first_repeat}
 use Rattle.snapshot.specs.Listing.{pairs_listed, orders_put}
 use Rattle.snapshot.specs.Checked.{told, checked}
-use Rattle.orders.specs.Applied.{Applies}
-use Rattle.apply.specs.declared.messages.Message.{Message}
-use Rattle.apply.specs.declared.messages.Message.TheVariants.{Snapshot}
 use Rattle.apply.specs.Marks.{marks_of, marks}
 use Rattle.apply.specs.Checked.{Counted, Checked}
-use Rattle.apply.specs.Said.{Said, listing, blank, is_blank_message, listed, unrepeated, snapshot_said}
-use Rattle.apply.specs.Meaning.{after, with_ladder, snapshot_after, Works}
+use Rattle.apply.specs.Said.{blank, is_blank_message, listed, unrepeated, snapshot_said}
 
 module _ {T : Type 0} (F : venue.Form T) (m : List ℕ) where
   pub short_so : length m < 7 → snapshot_said F m ≡ Err WrongLength
@@ -86,19 +80,3 @@ module _ {T : Type 0} (F : venue.Form T) (m : List ℕ) where
   pub check_so : (r : Result Counts MessageFault) → 7 ≤ length m → is_blank_message m ≡ false → r ≡ checked (snapshot_of F m) → Checked F m (result_map_both Some (λ e. e) r)
   check_so (Err f) h b e = fault_so f h b (sym e)
   check_so (Ok n) h b e = listed_so n h b (sym e)
-
-module _ {T : Type 0} {A : Type 0} (k : A → Reading (Said T × List (Order T))) (l l' : List (Order T)) where
-  pub works_err : (x : Reading A) (f : MessageFault) (r : Result (Message T) MessageFault) → x ≡ Err f → r ≡ Err f → l' ≡ l → Works (x ▷ k) l r l'
-  works_err x f r e h s = subst (λ y. Works (y ▷ k) l r l') (sym e) (h, s)
-
-  pub works_ok : (x : Reading A) (s : A) (r : Result (Message T) MessageFault) → x ≡ Ok s → Works (k s) l r l' → Works (x ▷ k) l r l'
-  works_ok x s r e w = subst (λ y. Works (y ▷ k) l r l') (sym e) w
-
--- a snapshot applied is worked
-pub worked_ok : {T : Type 0} (F : venue.Form T) (capacity : ℕ) (l l' : List (Order T)) (ms : List (Mark T)) (n : ℕ) → n ≡ length (pairs_listed ms)
-    → snapshot_after capacity l ms ≡ Ok l' → Works (with_ladder F capacity l (listing ms) (after F capacity l (listing ms))) l (Ok (Snapshot n)) l'
-worked_ok F capacity l l' ms n e h = subst (λ a. Works (with_ladder F capacity l (listing ms) a) l (Ok (Snapshot n)) l') (sym h) (ap (λ k. Ok (Snapshot k)) e, refl)
-
-pub worked_err : {T : Type 0} (F : venue.Form T) (capacity : ℕ) (l l' : List (Order T)) (ms : List (Mark T)) (f : MessageFault) (r : Result (Message T) MessageFault) → r ≡ Err f
-    → Applies (snapshot_after capacity l ms) l (Err f) l' → Works (with_ladder F capacity l (listing ms) (after F capacity l (listing ms))) l r l'
-worked_err F capacity l l' ms f r e h = subst (λ a. Works (with_ladder F capacity l (listing ms) a) l r l') (sym h.1) (e ∙ ap Err h.2, h.3)

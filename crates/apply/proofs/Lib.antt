@@ -3,3 +3,4 @@ pub mod Keeping
 pub mod Seeks
 pub mod Wholes
 pub mod Counted
+pub mod Working

@@ -54,7 +54,7 @@ module _ {T : Type 0} (F : venue.Form T) (m : List ℕ) where
   unfolding message_of
   by_cancel h = rw h
 
-  by_snapshot : get_or m 0 0 ≡ 83 → message_of F m ≡ snapshot_said F m
+  pub by_snapshot : get_or m 0 0 ≡ 83 → message_of F m ≡ snapshot_said F m
   unfolding message_of
   by_snapshot h = rw h
 

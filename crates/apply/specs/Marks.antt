@@ -45,6 +45,10 @@ module _ {T : Type 0} where
   abbrev pub marks : venue.Form T → List ℕ → List (Mark T)
   marks F m = marks_of (snapshot_of F m)
 
+  -- the pairs that a snapshot lists
+  abbrev pub listed_in : venue.Form T → List ℕ → List Pair
+  listed_in F m = pairs_listed (marks F m)
+
   -- the mark lists this pair
   abbrev pub names : Pair → Mark T → Bool
   names p (Lists q c) = same_pair c p

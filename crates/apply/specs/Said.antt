@@ -84,3 +84,12 @@ summary volume = told.Volume
 abbrev pub summed : {T : Type 0} → Reading (Said T) → Result (Message T) MessageFault
 summed (Ok s) = Ok (summary s)
 summed (Err f) = Err f
+
+-- what a message says that is told so; a snapshot's number does not tell its pairs, and a blank one stands for it
+abbrev pub said_by : {T : Type 0} → Message T → Said T
+said_by (told.New o) = new o
+said_by (told.Modify x) = modify x
+said_by (told.Cancel x) = cancel x
+said_by (told.Snapshot n) = blank
+said_by told.Trade = trade
+said_by told.Volume = volume

@@ -1,12 +1,12 @@
-// Any message, by its letter. Book and message stay two arguments of each call: a struct of them would be made for one call.
-ghost use Rattle.std.specs.Prelude.{◌≡◌, slice_get};
-ghost use Rattle.apply.specs.Said.{message_of, summed};
-ghost use Rattle.apply.specs.Meaning.{worked, Works};
+// Any message: its first byte is its letter, which says how the rest is read.
+ghost use Rattle.std.specs.Prelude.{◌≡◌, ◌==◌, slice_get, slice_index};
+ghost use Rattle.orders.specs.Applied.{Applies};
+ghost use Rattle.apply.specs.Said.{message_of, said_by, summed};
+ghost use Rattle.apply.specs.Meaning.{after, worked, Works};
 ghost use Rattle.apply.specs.Reads.{Exactly};
 
 use crate::messages::Message;
 use crate::snapshots::{read_snapshot, work_snapshot};
-use crate::work::{work_cancel, work_modify, work_new};
 use book::Book;
 use message::MessageFault;
 use venue::Venue;
@@ -41,8 +41,31 @@ pub fn read<V: Venue>(m: &[u8]) -> Result<Message<V::Terms>, MessageFault>
     read_any::<V>(m)
 }
 
+// Whether the message's letter is S.
+fn is_snapshot(m: &[u8]) -> bool
+    ensures { result ≡ (slice_index m.now 0 == 83) }
+{
+    letter(m) == Some('S')
+}
+
+// Does to the book what the message says. A snapshot does nothing here: how many pairs it lists does not say which.
+fn carry_out<V: Venue, B: Book<V::Terms>>(
+    book: &mut B,
+    message: &Message<V::Terms>,
+) -> Result<(), MessageFault>
+    ensures applied { Applies (after V.form (B.Book.capacity book.old) (B.Book.ladder book.old) (said_by message.now)) (B.Book.ladder book.old) result (B.Book.ladder book.new) }
+    ensures kept { B.Book.capacity book.new ≡ B.Book.capacity book.old }
+{
+    match message {
+        Message::New(order) => orders::apply_new::<V, B>(book, order),
+        Message::Modify(change) => orders::apply_modify::<V, B>(book, change),
+        Message::Cancel(cancel) => orders::apply_cancel::<V, B>(book, cancel),
+        Message::Snapshot(_) | Message::Trade | Message::Volume => Ok(()),
+    }
+}
+
 // The message that these bytes lay out at the venue, applied to the book; or the first fault, and the book as it was.
-#[tactic(auto, unfolding(crate::specs::Said::message_of))]
+#[tactic(auto, using(crate::proofs::Working::works_snapshot, crate::proofs::Working::works_fault, crate::proofs::Working::works_told, crate::proofs::Working::works_refused))]
 pub fn apply<V: Venue, B: Book<V::Terms>>(
     book: &mut B,
     m: &[u8],
@@ -50,13 +73,10 @@ pub fn apply<V: Venue, B: Book<V::Terms>>(
     ensures works { Works (worked V.form (B.Book.capacity book.old) (B.Book.ladder book.old) m.now) (B.Book.ladder book.old) result (B.Book.ladder book.new) }
     ensures kept { B.Book.capacity book.new ≡ B.Book.capacity book.old }
 {
-    match letter(m) {
-        Some('N') => work_new::<V, B>(book, m),
-        Some('M') => work_modify::<V, B>(book, m),
-        Some('X') => work_cancel::<V, B>(book, m),
-        Some('S') => work_snapshot::<V, B>(book, m),
-        Some('T') => Ok(Message::Trade),
-        Some('V') => Ok(Message::Volume),
-        _ => Err(MessageFault::NoLetter),
+    if is_snapshot(m) {
+        return work_snapshot::<V, B>(book, m);
     }
+    let message = read::<V>(m)?;
+    carry_out::<V, B>(book, &message)?;
+    Ok(message)
 }

@@ -7,7 +7,6 @@ mod listing;
 mod messages;
 mod snapshots;
 mod tasks;
-mod work;
 
 pub use any::{apply, read};
 pub use messages::Message;

@@ -3,12 +3,12 @@ ghost use Rattle.std.specs.Prelude.{◌≡◌, ◌+◌, ◌≤◌, Ok, length, n
 ghost use Rattle.book.specs.Ladder.{at_rank};
 ghost use Rattle.snapshot.specs.Snapshot.{snapshot_of};
 ghost use Rattle.snapshot.specs.Checked.{checked};
-ghost use Rattle.snapshot.specs.Listing.{pairs_listed, cleared_all, room_needed, replaced};
+ghost use Rattle.snapshot.specs.Listing.{cleared_all, room_needed, replaced};
 ghost use Rattle.orders.specs.Applied.{Applies};
-ghost use Rattle.apply.specs.Marks.{lists, stays, Right, unlisted, marks};
+ghost use Rattle.apply.specs.Marks.{lists, stays, Right, unlisted, marks, listed_in};
 ghost use Rattle.apply.specs.Meaning.{snapshot_after};
 
-use crate::tasks::{Asked, Clearing, Placing, Seeking, same_pair};
+use crate::tasks::{Asked, Clearing, Placing, Seeking};
 use book::{Book, BookFault, Terms};
 use fields::Pair;
 use message::{BookRefusal, MessageFault};
@@ -55,7 +55,7 @@ impl<'a, V: Venue> Listing<'a, V> {
 
     // Whether the snapshot lists the pair.
     fn lists(&self, pair: Pair) -> bool
-        ensures { result ≡ lists (pairs_listed (marks V.form self.now.m.now)) pair }
+        ensures { result ≡ lists (listed_in V.form self.now.m.now) pair }
     {
         let mut asked = Asked {
             pair,
@@ -66,12 +66,13 @@ impl<'a, V: Venue> Listing<'a, V> {
     }
 
     // Whether the snapshot lists the pair, by what was asked last if that is the same.
+    #[tactic(auto, using(crate::proofs::Keeping::pair_one, crate::proofs::Seeks::right_same))]
     fn ask(&self, pair: Pair, last: Option<Asked>) -> Asked
         ensures pair { result.pair ≡ pair }
-        ensures right { Right (pairs_listed (marks V.form self.now.m.now)) last → result.listed ≡ lists (pairs_listed (marks V.form self.now.m.now)) pair }
+        ensures right { Right (listed_in V.form self.now.m.now) last → result.listed ≡ lists (listed_in V.form self.now.m.now) pair }
     {
         match last {
-            Some(asked) if same_pair(asked.pair, pair) => asked,
+            Some(asked) if asked.pair == pair => asked,
             _ => Asked {
                 pair,
                 listed: self.lists(pair),
@@ -81,8 +82,8 @@ impl<'a, V: Venue> Listing<'a, V> {
 
     // Whether the snapshot lists the pair of the order at a rank.
     fn ask_at<B: Book<V::Terms>>(&self, book: &B, rank: usize, last: Option<Asked>) -> Option<Asked>
-        ensures right { Right (pairs_listed (marks V.form self.now.m.now)) last → Right (pairs_listed (marks V.form self.now.m.now)) result }
-        ensures stays { Right (pairs_listed (marks V.form self.now.m.now)) last → unlisted result ≡ stays (pairs_listed (marks V.form self.now.m.now)) (at_rank (B.Book.ladder book.now) rank) }
+        ensures right { Right (listed_in V.form self.now.m.now) last → Right (listed_in V.form self.now.m.now) result }
+        ensures stays { Right (listed_in V.form self.now.m.now) last → unlisted result ≡ stays (listed_in V.form self.now.m.now) (at_rank (B.Book.ladder book.now) rank) }
     {
         let order = book.at(rank)?;
         Some(self.ask(order.pair, last))
@@ -90,7 +91,7 @@ impl<'a, V: Venue> Listing<'a, V> {
 
     // How many standing orders are of no pair listed.
     fn kept<B: Book<V::Terms>>(&self, book: &B) -> usize
-        ensures { result ≡ length (cleared_all (pairs_listed (marks V.form self.now.m.now)) (B.Book.ladder book.now)) }
+        ensures { result ≡ length (cleared_all (listed_in V.form self.now.m.now) (B.Book.ladder book.now)) }
     {
         // A loop by rank: a book is asked by rank, and the last answer serves all orders of its pair.
         let len = book.len();
@@ -121,10 +122,11 @@ impl<'a, V: Venue> Listing<'a, V> {
     {
         let stay = self.kept(book);
         if !has_room(book.capacity(), stay, self.counts.orders) {
-            return Err(MessageFault::Book(BookRefusal {
+            return Err(BookRefusal {
                 fault: BookFault::Full,
                 at: 0,
-            }));
+            }
+            .into());
         }
         self.replace(book);
         Ok(())

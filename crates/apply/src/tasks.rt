@@ -1,6 +1,6 @@
 // What the walks over a snapshot do at each mark.
 ghost use Rattle.std.specs.Prelude.{◌≡◌, ◌<◌, false, ◌||◌, length};
-ghost use Rattle.book.specs.Ladder.{same_pair, stands, placed};
+ghost use Rattle.book.specs.Ladder.{stands, placed};
 ghost use Rattle.apply.specs.Marks.{names, clears, Places};
 
 use book::{Book, Order, Terms};
@@ -14,12 +14,7 @@ pub struct Asked {
     pub listed: bool,
 }
 
-pub(crate) fn same_pair(a: Pair, b: Pair) -> bool
-    ensures { result ≡ same_pair a b }
-{
-    a.bytes() == b.bytes()
-}
-
+// Whether the pair asked is one of those that the snapshot lists.
 pub struct Seeking;
 
 impl<T: Terms> Task<T, Asked> for Seeking {
@@ -27,12 +22,13 @@ impl<T: Terms> Task<T, Asked> for Seeking {
 
     fn visit(m: &[u8], state: &mut Asked, mark: &Mark<T>) {
         match mark {
-            Mark::Lists(_, pair) => state.listed |= same_pair(*pair, state.pair),
+            Mark::Lists(_, pair) => state.listed |= *pair == state.pair,
             Mark::Puts(_, _) => {}
         }
     }
 }
 
+// Clears each pair listed.
 pub struct Clearing;
 
 impl<T: Terms, B: Book<T>> Task<T, B> for Clearing {
@@ -54,6 +50,7 @@ fn put<T: Terms, B: Book<T>>(book: &mut B, order: &Order<T>)
     let _ = book.place(order);
 }
 
+// Places each order put.
 pub struct Placing;
 
 impl<T: Terms, B: Book<T>> Task<T, B> for Placing {

@@ -1,5 +1,6 @@
 // The readers of the messages on one order.
-ghost use Rattle.std.specs.Prelude.{◌≡◌};
+ghost use Rattle.std.specs.Prelude.{◌≡◌, Ok};
+ghost use Rattle.message.specs.Reading.{sized};
 ghost use Rattle.message.specs.Orders.{replaced_offset, new_of, amend_of, end_of, reprice_of, modify_of, cancel_of};
 
 use crate::fault::MessageFault;
@@ -9,17 +10,22 @@ use book::{Order, Side};
 use fields::{Amount, OrderId, Pair, Price};
 use venue::Venue;
 
-// Where the amount of a Modify with price ends.
-const AMOUNT_END: usize = 49;
+// Whether the message has `n` bytes.
+fn of_length(m: &[u8], n: usize) -> Result<(), MessageFault>
+    ensures { result ≡ sized m.now n (Ok tt) }
+{
+    if m.len() != n {
+        return Err(MessageFault::WrongLength);
+    }
+    Ok(())
+}
 
 // New.
 #[tactic(auto, unfolding(crate::specs::Orders::new_of))]
 pub fn read_new<V: Venue>(m: &[u8]) -> Result<Order<V::Terms>, MessageFault>
     ensures { result ≡ new_of V.form m.now }
 {
-    if m.len() != 50 + V::width() {
-        return Err(MessageFault::WrongLength);
-    }
+    of_length(m, 50 + V::width())?;
     let side = value::<Side>(m, 1)?;
     let pair = value::<Pair>(m, 2)?;
     let id = value::<OrderId>(m, 9)?;
@@ -41,9 +47,7 @@ pub fn read_new<V: Venue>(m: &[u8]) -> Result<Order<V::Terms>, MessageFault>
 fn read_amend<V: Venue>(m: &[u8]) -> Result<Modify<V::Terms>, MessageFault>
     ensures { result ≡ amend_of V.form m.now }
 {
-    if m.len() != 39 + V::width() {
-        return Err(MessageFault::WrongLength);
-    }
+    of_length(m, 39 + V::width())?;
     let pair = value::<Pair>(m, 1)?;
     let active = value::<OrderId>(m, 8)?;
     let amount = value::<Amount>(m, 23)?;
@@ -79,9 +83,9 @@ pub fn replaced_at<V: Venue>() -> usize
     ensures { result ≡ replaced_offset V.form }
 {
     if V::modify_tail_first() {
-        AMOUNT_END + V::width()
+        49 + V::width()
     } else {
-        AMOUNT_END
+        49
     }
 }
 
@@ -90,9 +94,7 @@ pub fn replaced_at<V: Venue>() -> usize
 fn read_reprice<V: Venue>(m: &[u8]) -> Result<Modify<V::Terms>, MessageFault>
     ensures { result ≡ reprice_of V.form m.now }
 {
-    if m.len() != 64 + V::width() {
-        return Err(MessageFault::WrongLength);
-    }
+    of_length(m, 64 + V::width())?;
     let pair = value::<Pair>(m, 1)?;
     let active = value::<OrderId>(m, 8)?;
     let price = value::<Option<Price>>(m, 23)?;
@@ -127,9 +129,7 @@ pub fn read_modify<V: Venue>(m: &[u8]) -> Result<Modify<V::Terms>, MessageFault>
 pub fn read_cancel(m: &[u8]) -> Result<Cancel, MessageFault>
     ensures { result ≡ cancel_of m.now }
 {
-    if m.len() != 23 {
-        return Err(MessageFault::WrongLength);
-    }
+    of_length(m, 23)?;
     let pair = value::<Pair>(m, 1)?;
     let id = value::<OrderId>(m, 8)?;
     Ok(Cancel { pair, id })

@@ -44,8 +44,7 @@ pub fn apply_cancel<V: Venue, B: Book<V::Terms>>(
 fn is_taken<T: Terms, B: Book<T>>(book: &B, change: &Modify<T>) -> bool
     ensures { result ≡ taken (B.Book.ladder book.now) change.now }
 {
-    naming::target_of(change).bytes() != change.active.bytes()
-        && book.rank_of(change.pair, change.active).is_some()
+    naming::target_of(change) != change.active && book.rank_of(change.pair, change.active).is_some()
 }
 
 // Removes the target, and places the order.
@@ -91,10 +90,11 @@ pub fn apply_modify<V: Venue, B: Book<V::Terms>>(
         at: naming::target_at::<V>(change.replaced),
     })?;
     if is_taken(book, change) {
-        return Err(MessageFault::Book(BookRefusal {
+        return Err(BookRefusal {
             fault: BookFault::Standing,
             at: ID_AT,
-        }));
+        }
+        .into());
     }
     make(book, change, old.side);
     Ok(())

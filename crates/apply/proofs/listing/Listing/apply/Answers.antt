@@ -16,7 +16,7 @@ returns-then-not-has_room-clause-applied g c =
     let l = g.B.Book.ladder b in
     let stay = c.kept-stay.result in
     let over = sym (room_test (g.B.Book.capacity b) stay n.orders (marks F m) l c.kept-stay.ensures (whole F m n c.args.self.now.was_checked).orders) ∙ ap (λ k. leb (stay + n.orders) k) (sym c.capacity.ensures) ∙ sym c.has_room.ensures ∙ c.if-not-has_room.true in
-    (refusal Full 0, after_full (g.B.Book.capacity b) (marks F m) l over, refl, refl)
+    (refusal Full 0, after_full (g.B.Book.capacity b) (marks F m) l over, c.into.ensures, refl)
 
 pub returns-clause-applied : goal.returns-clause-applied
 returns-clause-applied g c =
