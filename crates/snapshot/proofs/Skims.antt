@@ -2,10 +2,12 @@
 use Rattle.std.proofs.Common.{Bor, None, take, drop, take_all, ◌≡◌, ℕ, zero, suc, ◌+◌, ◌-◌, ◌*◌, ◌^◌, ◌<◌, ◌≤◌, min, Bool, true, false, cond, ◌&&◌, ◌||◌, eqb, ltb, List, [], ◌∷◌, ◌++◌, length, Some, Ok, Err, Decides, Option, Result, sym, refl, ap, ◌∙◌, subst, inl, inr, suc-mul, zero-mul, arith, length-drop, length-take}
 use Rattle.std.specs.declared.ops.ControlFlow.{ControlFlow}
 use Rattle.std.specs.declared.ops.ControlFlow.TheVariants.{Continue, Break}
+use Rattle.std.specs.declared.ops.Range.{Range}
 use Rattle.std.specs.Cmp.Lexicographic.{pointwise}
 use Rattle.std.specs.Option.{MatchOption}
+use Rattle.std.specs.Iterator.{Yields, YieldsThen}
 use Rattle.std.specs.Slice.{IsGetRangeResult}
-use Rattle.std.specs.List.{list_any}
+use Rattle.std.specs.List.{FoldsTo, list_any}
 use Rattle.std.specs.Str.{bytes_eq}
 use Rattle.std.proofs.Math.Bool.{or-false, and-false}
 use Rattle.std.proofs.lemmas.List.Folds.{list_any-append}
@@ -149,6 +151,18 @@ tail_inv F m p t e h =
     let i = ended (tail_at F m p) (p + F.width) t e h in
     let r = tail_read F m p t i.0 in
     (i.1, omega (arith, i.1, r.within))
+
+-- a range of numbers: one more, or none left
+abbrev Ranges : Range ℕ → Option ℕ → Range ℕ → Type 0
+Ranges s r t = (t.end ≡ s.end) × MatchOption r ((s.end - s.start ≡ 0) × (t.start ≡ s.start)) (λ x. (0 < s.end - s.start) × (x ≡ s.start) × (t.start ≡ s.start + 1))
+
+-- how many a range gave, of all
+pub given : (xs : List ℕ) (s t : Range ℕ) → Yields Ranges s xs t → s.end - s.start ≡ length xs + (t.end - t.start)
+given [] s t y = omega (arith, ap (λ (r : Range ℕ). r.end - r.start) y)
+given (x ∷ xs) s t y = omega (arith, given xs y.0 t y.2, y.1.0, y.1.1.0, y.1.1.2)
+
+pub drained : (xs : List ℕ) (n : ℕ) (u : Range ℕ) → YieldsThen Ranges (record { start = 0; end = n }) xs None u → length xs ≡ n
+drained xs n u y = omega (arith, given xs _ y.0 y.1, y.2.1.0)
 
 -- Tests of marks.
 module _ {T : Type 0} (t : Mark T → Bool) where
@@ -353,24 +367,40 @@ module _ {T : Type 0} (upto : ℕ) (id : List ℕ) where
           (ap (met upto id) j.both ∙ among_later (puts_id upto id) j.xs j.ys i.0 ∙ w.0, w.1);
     }
 
-  -- n blocks, of which i are passed: what is said of those left is said of all
-  module _ (f : ℕ → Scan (List (Mark T))) (n start : ℕ) where
-    abbrev pub SkimsLeft : ℕ → ℕ → Type 0
-    SkimsLeft i at = (a : ControlFlow Bool ℕ) → Skims upto id (times f (n - i) at) a → Skims upto id (times f n start) a
+  -- calls that go over one block each, in turn: what is said of the blocks left is said of all
+  module _ {F : Type 0} (f : ℕ → Scan (List (Mark T))) (R : F × ℕ → ℕ → F × ℕ → Type 0) (k : F) (turn : (at x : ℕ) (q : F × ℕ) → R (k, at) x q → Skims upto id (f at) (Continue q.1) × (q.0 ≡ k)) where
+    skims_folded : (xs : List ℕ) (more n at : ℕ) (q : F × ℕ) → n ≡ length xs + more → FoldsTo R (k, at) xs q → (a : ControlFlow Bool ℕ) → Skims upto id (times f more q.1) a → Skims upto id (times f n at) a
+    unfolding times
+    skims_folded [] more n at q l c a h =
+        let same : n ≡ more = omega arith in
+        subst (λ (z : ℕ × ℕ). Skims upto id (times f z.0 z.1) a) {x = (more, q.1)} {y = (n, at)} (λ i. (sym same i, sym (ap (λ (v : F × ℕ). v.1) c) i)) h
+    skims_folded (x ∷ xs) more n at q l c a h =
+        let t = turn at x c.0 c.1 in
+        let more-than : n ≡ suc (length xs + more) = omega arith in
+        subst (λ z. Skims upto id (times f z at) a) (sym more-than)
+        (skims_on (f at) (times f (length xs + more)) c.0.1 a t.0
+        (skims_folded xs more (length xs + more) c.0.1 q refl (subst (λ (v : F × ℕ). FoldsTo R v xs q) {x = c.0} {y = (k, c.0.1)} (λ i. (t.1 i, c.0.1)) c.2) a h))
 
-    pub skims_next : (i at q : ℕ) → i < n → Skims upto id (f at) (Continue q) → SkimsLeft i at → SkimsLeft (i + 1) q
-    skims_next i at q l h k a z = k a (subst (λ x. Skims upto id x a) (sym (times_more f n i at l)) (skims_on (f at) (times f (n - (i + 1))) q a h z))
+    steady : (xs : List ℕ) (at : ℕ) (q : F × ℕ) → FoldsTo R (k, at) xs q → q.0 ≡ k
+    steady [] at q c = sym (ap (λ (v : F × ℕ). v.0) c)
+    steady (x ∷ xs) at q c = steady xs c.0.1 q (subst (λ (v : F × ℕ). FoldsTo R v xs q) {x = c.0} {y = (k, c.0.1)} (λ i. ((turn at x c.0 c.1).1 i, c.0.1)) c.2)
 
-    pub skims_stop : (i at : ℕ) (b : Bool) → Void (puts_id upto id) upto f → i < n → Skims upto id (f at) (Break b) → SkimsLeft i at → Skims upto id (times f n start) (Break b)
-    skims_stop i at b v l h k = k (Break b) (subst (λ x. Skims upto id x (Break b)) (sym (times_more f n i at l)) (skims_off (f at) (times f (n - (i + 1))) b (times_void (puts_id upto id) upto f v (n - (i + 1))) h))
-
-    pub skims_done : (i at : ℕ) → n ≤ i → SkimsLeft i at → Skims upto id (times f n start) (Continue at)
-    skims_done i at l k = k (Continue at) record {
-      says = λ ms e z.
-          let over = times_over f n i at l in
-          let same : ◌≡◌ {A = List (Mark T) × ℕ} ([], at) (ms, e) = cc in
-          (ap (λ (z : List (Mark T) × ℕ). met upto id z.0) (sym same), ap (λ (z : List (Mark T) × ℕ). z.1) same);
-    }
+    -- all of n went on, or one broke off
+    module _ (clear : Void (puts_id upto id) upto f) (n at : ℕ) (xs : List ℕ) (q : F × ℕ) (c : FoldsTo R (k, at) xs q) (u : Range ℕ) (r : ControlFlow Bool ℕ) {N : Type 0} {B : ℕ → Type 0} where
+      pub skims_tried : (o : Option ℕ) → YieldsThen Ranges (record { start = 0; end = n }) xs o u → MatchOption o N B → (N → r ≡ Continue q.1) → ((x : ℕ) → q.0 ≡ k → B x → (b : Bool) × Skims upto id (f q.1) (Break b) × (r ≡ Break b)) → Skims upto id (times f n at) r
+      unfolding times
+      skims_tried None y h went broke =
+          let last : Skims upto id (times f 0 q.1) (Continue q.1) = record {
+            says = λ ms e z.
+                let same : ◌≡◌ {A = List (Mark T) × ℕ} ([], q.1) (ms, e) = cc in
+                (ap (λ (z : List (Mark T) × ℕ). met upto id z.0) (sym same), ap (λ (z : List (Mark T) × ℕ). z.1) same);
+          } in
+          subst (λ a. Skims upto id (times f n at) a) (sym (went h)) (skims_folded xs 0 n at q (omega (arith, given xs _ y.0 y.1, y.2.1.0)) c (Continue q.1) last)
+      skims_tried (Some x) y h went broke =
+          let more = y.0.end - y.0.start - 1 in
+          let b = broke x (steady xs at q c) h in
+          subst (λ a. Skims upto id (times f n at) a) (sym b.2)
+          (skims_folded xs (suc more) n at q (omega (arith, given xs _ y.0 y.1, y.2.1.0)) c (Break b.0) (skims_off (f q.1) (times f more) b.0 (times_void (puts_id upto id) upto f clear more) b.1))
 
 module _ {T : Type 0} (F : venue.Form T) (m : List ℕ) (c : Pair) (s : Side) where
   -- the level at `at`, as the code goes over it
@@ -414,25 +444,23 @@ module _ {T : Type 0} (F : venue.Form T) (m : List ℕ) (c : Pair) (s : Side) wh
     pub side_ends : (r : ℕ) → Ends (times (level_at F m c s) k q) r → Ends (side_at F m c s p) r
     side_ends r h = record { end = λ ms e j. h.end ms e (side_times ms e j) }
 
--- Where blocks end, of which i of n are passed.
-module _ {A : Type 0} (f : ℕ → Scan (List (Mark A))) (n start : ℕ) where
-  abbrev pub EndsLeft : ℕ → ℕ → Type 0
-  EndsLeft i at = (r : ℕ) → Ends (times f (n - i) at) r → Ends (times f n start) r
-
-  pub ends_next : (i at q : ℕ) → i < n → Ends (f at) q → EndsLeft i at → EndsLeft (i + 1) q
-  ends_next i at q l h k r z = k r record {
-    end = λ ms e y.
-        let j = seq_inv (f at) (times f (n - (i + 1))) ms e (sym (times_more f n i at l) ∙ y) in
-        z.end j.ys e (ap (times f (n - (i + 1))) (h.end j.xs j.mid j.first) ∙ j.then);
-  }
-
-  pub ends_done : (i at : ℕ) → n ≤ i → EndsLeft i at → Ends (times f n start) at
-  ends_done i at l k = k at record {
+-- Where blocks end: calls that go over one block each, in turn.
+module _ {A F X : Type 0} (f : ℕ → Scan (List (Mark A))) (R : F × ℕ → X → F × ℕ → Type 0) (k : F) (turn : (at : ℕ) (x : X) (q : F × ℕ) → R (k, at) x q → Ends (f at) q.1 × (q.0 ≡ k)) where
+  pub ends_folded : (xs : List X) (at : ℕ) (q : F × ℕ) → FoldsTo R (k, at) xs q → Ends (times f (length xs) at) q.1
+  unfolding times
+  ends_folded [] at q c = record {
     end = λ ms e z.
-        let over = times_over f n i at l in
         let same : ◌≡◌ {A = List (Mark A) × ℕ} ([], at) (ms, e) = cc in
-        ap (λ (z : List (Mark A) × ℕ). z.1) same;
+        sym (ap (λ (v : F × ℕ). v.1) c) ∙ ap (λ (v : List (Mark A) × ℕ). v.1) same;
   }
+  ends_folded (x ∷ xs) at q c =
+      let t = turn at x c.0 c.1 in
+      let rest = ends_folded xs c.0.1 q (subst (λ (v : F × ℕ). FoldsTo R v xs q) {x = c.0} {y = (k, c.0.1)} (λ i. (t.1 i, c.0.1)) c.2) in
+      record {
+        end = λ ms e z.
+            let j = seq_inv (f at) (times f (length xs)) ms e z in
+            rest.end j.ys e (ap (times f (length xs)) (t.0.end j.xs j.mid j.first) ∙ j.then);
+      }
 
 -- A pair: its bytes, and then its sides.
 record PairRead {T : Type 0} (F : venue.Form T) (m : List ℕ) (p : ℕ) (ms : List (Mark T)) (e : ℕ) : Type 0 where

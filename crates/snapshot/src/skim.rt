@@ -71,21 +71,25 @@ fn level_count(m: &[u8], at: usize) -> usize
 }
 
 // Where a level at `at` of `count` orders ends.
-fn level_end<V: Venue>(m: &[u8], at: usize, count: usize) -> usize
+fn orders_end<V: Venue>(m: &[u8], at: usize, count: usize) -> usize
     requires { count < 10000 }
     ensures { at + (14 + count * order_width V.form) ≤ length m.now → result ≡ at + (14 + count * order_width V.form) }
 {
     after(m, at, 14 + count * order_size::<V>())
 }
 
+// Where the level at `at` ends.
+fn level_end<V: Venue>(m: &[u8], at: usize) -> usize
+    ensures { (c : Pair) (s : Side) → Ends (level_at V.form m.now c s at) result }
+{
+    orders_end::<V>(m, at, level_count(m, at))
+}
+
 // Where `n` levels from `at` end.
-fn levels_end<V: Venue>(m: &[u8], mut at: usize, n: usize) -> usize
+fn levels_end<V: Venue>(m: &[u8], at: usize, n: usize) -> usize
     ensures { (c : Pair) (s : Side) → Ends (times (level_at V.form m.now c s) n at) result }
 {
-    for _ in 0..n {
-        at = level_end::<V>(m, at, level_count(m, at));
-    }
-    at
+    (0..n).fold(at, |at, _| level_end::<V>(m, at))
 }
 
 // Where the side at `at` ends.
@@ -151,17 +155,14 @@ impl Sought<'_> {
         if self.met(ids, count, order_size::<V>()) {
             return ControlFlow::Break(true);
         }
-        ControlFlow::Continue(level_end::<V>(self.m, at, count))
+        ControlFlow::Continue(orders_end::<V>(self.m, at, count))
     }
 
     // Over `n` levels from `at`.
-    fn levels<V: Venue>(&self, mut at: usize, n: usize) -> ControlFlow<bool, usize>
+    fn levels<V: Venue>(&self, at: usize, n: usize) -> ControlFlow<bool, usize>
         ensures { (c : Pair) (s : Side) → Skims self.now.upto self.now.id.now (times (level_at V.form self.now.m.now c s) n at) result }
     {
-        for _ in 0..n {
-            at = self.level::<V>(at)?;
-        }
-        ControlFlow::Continue(at)
+        (0..n).try_fold(at, |at, _| self.level::<V>(at))
     }
 
     // Over the side at `at`.

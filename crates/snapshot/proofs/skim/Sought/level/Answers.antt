@@ -13,4 +13,4 @@ returns-then-met g c p s =
 pub returns : goal.returns
 returns g c p s =
     level_skims_on g.V.Venue.form c.args.self.now.m.now p s c.args.at c.level_count-count.result c.level_count-count.ensures.read c.args.self.now.upto c.args.self.now.id.now
-    c.id_place.result c.order_size.result c.after-ids.result c.id_place.ensures c.order_size.ensures c.after-ids.ensures c.level_end.result (sym c.if-met.ensures) c.level_end.ensures
+    c.id_place.result c.order_size.result c.after-ids.result c.id_place.ensures c.order_size.ensures c.after-ids.ensures c.orders_end.result (sym c.if-met.ensures) c.orders_end.ensures
