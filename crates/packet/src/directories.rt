@@ -7,13 +7,11 @@ ghost use Rattle.packet.specs.Verdict.{Matches};
 use crate::packets::{FormFault, Packet};
 use fields::{Integer, Pair};
 
-// Whether the pair number k is in form.
-fn is_pair(body: &[u8], k: usize) -> bool
-    requires { 5 + 7 * k + 7 ≤ length body.now }
-    ensures { Decides result (Paired (field (5 + 7 * k) 7 body.now)) }
+// Whether the bytes are a pair in form.
+fn is_pair(bytes: &[u8]) -> bool
+    ensures { Decides result (Paired bytes.now) }
 {
-    let at = 5 + 7 * k;
-    Pair::read(&body[at..at + 7]).is_ok()
+    Pair::read(bytes).is_ok()
 }
 
 // The first of the n pairs that is not in form.
@@ -23,7 +21,7 @@ fn first_bad_pair(body: &[u8], n: usize) -> Option<usize>
         ((k : ℕ) → k < n → Paired (field (5 + 7 * k) 7 body.now))
         (λ k. (k < n) × (Paired (field (5 + 7 * k) 7 body.now) → ⊥) × ((j : ℕ) → j < k → Paired (field (5 + 7 * j) 7 body.now))) }
 {
-    (0..n).find(|k| !is_pair(body, *k))
+    body[5..].chunks_exact(7).position(|pair| !is_pair(pair))
 }
 
 // The fault of the pair number k.
