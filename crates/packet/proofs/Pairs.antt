@@ -21,8 +21,8 @@ there_is : {X : Type 0} (o : Option X) (y : X) (P : X → Type 0) → option_map
 there_is None y P e h = search (rules, e)
 there_is (Some x) y P e h = h
 
-module _ {S F : Type 0} {steps : S → Option (Bor (List ℕ)) → S → Type 0} (p : Run steps) (g : Mut F (Bor (List ℕ) × Unit {0}) Bool) (f : F) (Form : List ℕ → Type 0) (n : ℕ) (bs : List ℕ)
-    (m : ℕ) (xs : List ℕ) (seven : m ≡ 7) (behind : xs ≡ drop 5 bs) (long : length bs ≡ 5 + 7 * n) (chunks : 0 < m → IsChunksExactRun p m xs)
+module _ {S F : Type 0} {steps : S → Option (Bor (List ℕ)) → S → Type 0} (p : Run steps) (g : Mut F (Bor (List ℕ) × Unit {0}) Bool) (f : F) (Form : List ℕ → Type 0) (bs : List ℕ)
+    (m : ℕ) (xs : List ℕ) (seven : m ≡ 7) (behind : xs ≡ drop 5 bs) (long : 5 ≤ length bs) (chunks : 0 < m → IsChunksExactRun p m xs)
     (keeps : CallKeepsClosure g f) (bad : (x : Bor (List ℕ)) → Called g f (x, tt) true f → Form x.now → ⊥) (good : (x : Bor (List ℕ)) → Called g f (x, tt) false f → Form x.now) where
   cut : IsChunksExactRun p 7 (drop 5 bs)
   cut = subst (λ m. IsChunksExactRun p m (drop 5 bs)) seven (subst (IsChunksExactRun p m) behind (chunks (omega arith)))
@@ -37,7 +37,7 @@ module _ {S F : Type 0} {steps : S → Option (Bor (List ℕ)) → S → Type 0}
   bad_at k h form = at_some (p.at k) _ _ h (cut.2 k) (λ x a s. bad x a (subst Form (sym (at_place k x.now s.2)) form))
 
   pub first_bad : (r : Option ℕ) → MatchOption r ((p.whole ≡ true) × AllItemsGive p g f false) (λ i. (p.len ≡ i + 1) × IsFirstToGive p g f true false i)
-      → MatchOption r ((k : ℕ) → k < n → Form (field (5 + 7 * k) 7 bs)) (λ k. (k < n) × (Form (field (5 + 7 * k) 7 bs) → ⊥) × ((j : ℕ) → j < k → Form (field (5 + 7 * j) 7 bs)))
+      → MatchOption r ((k : ℕ) → 5 + 7 * k + 7 ≤ length bs → Form (field (5 + 7 * k) 7 bs)) (λ k. (5 + 7 * k + 7 ≤ length bs) × (Form (field (5 + 7 * k) 7 bs) → ⊥) × ((j : ℕ) → j < k → Form (field (5 + 7 * j) 7 bs)))
   first_bad None h = λ k l.
       let w = cut.1 h.0 in
       let b : k < p.len = omega (arith, length-drop 5 bs) in

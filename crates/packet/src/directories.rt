@@ -1,7 +1,7 @@
 // The directory: a number of pairs, and so many pairs.
 ghost use Rattle.std.specs.Prelude.{◌≡◌, ℕ, ◌+◌, ◌*◌, ◌^◌, ◌<◌, ◌≤◌, length, Decides, MatchOption};
 ghost use Rattle.fields.specs.Forms.{Paired};
-ghost use Rattle.packet.specs.Layouts.{field, size};
+ghost use Rattle.packet.specs.Layouts.{field};
 ghost use Rattle.packet.specs.Verdict.{Matches};
 
 use crate::packets::{FormFault, Packet};
@@ -14,12 +14,12 @@ fn is_pair(bytes: &[u8]) -> bool
     Pair::read(bytes).is_ok()
 }
 
-// The first of the n pairs that is not in form.
-fn first_bad_pair(body: &[u8], n: usize) -> Option<usize>
-    requires { size body.now ≡ 6 + 7 * n }
+// The first of the pairs from 5 on that is not in form.
+fn first_bad_pair(body: &[u8]) -> Option<usize>
+    requires { 5 ≤ length body.now }
     ensures { MatchOption result
-        ((k : ℕ) → k < n → Paired (field (5 + 7 * k) 7 body.now))
-        (λ k. (k < n) × (Paired (field (5 + 7 * k) 7 body.now) → ⊥) × ((j : ℕ) → j < k → Paired (field (5 + 7 * j) 7 body.now))) }
+        ((k : ℕ) → 5 + 7 * k + 7 ≤ length body.now → Paired (field (5 + 7 * k) 7 body.now))
+        (λ k. (5 + 7 * k + 7 ≤ length body.now) × (Paired (field (5 + 7 * k) 7 body.now) → ⊥) × ((j : ℕ) → j < k → Paired (field (5 + 7 * j) 7 body.now))) }
 {
     body[5..].chunks_exact(7).position(|pair| !is_pair(pair))
 }
@@ -44,7 +44,7 @@ pub(crate) fn directory(body: &[u8]) -> Result<Packet, FormFault>
     if body.len() != 5 + 7 * n {
         return Err(FormFault::WrongLength);
     }
-    match first_bad_pair(body, n) {
+    match first_bad_pair(body) {
         Some(k) => Err(pair_fault(k)),
         None => Ok(Packet::Directory(pairs)),
     }
