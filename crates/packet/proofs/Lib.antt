@@ -1,3 +1,4 @@
 pub mod Alike
 pub mod Apart
 pub mod Forms
+pub mod Pairs

@@ -11,7 +11,7 @@ abbrev pub Headed : List ℕ → Result ℕ FormFault → Type 0
 Headed bs (Ok c) = Fits bs × PrintableTo bs (length bs) × (c ≡ slice_index bs 0) × ((l : Letter) × (c ≡ code l))
 Headed bs (Err f) = Faulty bs f
 
--- the packet of letter c that the bytes after the letter lay out, or the first check that fails: 13, 15, 16
+-- the packet of letter c that the bytes, with the letter, lay out, or the first check that fails: 13, 15, 16
 abbrev pub Matches : ℕ → List ℕ → Result Packet FormFault → Type 0
 Matches c bs (Ok p) = (c ≡ code (letter_of p)) × Row bs p
 Matches c bs (Err f) = Unlike c bs f

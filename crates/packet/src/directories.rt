@@ -1,29 +1,27 @@
 // The directory: a number of pairs, and so many pairs.
 ghost use Rattle.std.specs.Prelude.{◌≡◌, ℕ, ◌+◌, ◌*◌, ◌^◌, ◌<◌, ◌≤◌, length, Decides, MatchOption};
 ghost use Rattle.fields.specs.Forms.{Paired};
-ghost use Rattle.packet.specs.Layouts.{field, size};
+ghost use Rattle.packet.specs.Layouts.{field};
 ghost use Rattle.packet.specs.Verdict.{Matches};
 
 use crate::packets::{FormFault, Packet};
 use fields::{Integer, Pair};
 
-// Whether the pair number k is in form.
-fn is_pair(body: &[u8], k: usize) -> bool
-    requires { 5 + 7 * k + 7 ≤ length body.now }
-    ensures { Decides result (Paired (field (5 + 7 * k) 7 body.now)) }
+// Whether the bytes are a pair in form.
+fn is_pair(bytes: &[u8]) -> bool
+    ensures { Decides result (Paired bytes.now) }
 {
-    let at = 5 + 7 * k;
-    Pair::read(&body[at..at + 7]).is_ok()
+    Pair::read(bytes).is_ok()
 }
 
-// The first of the n pairs that is not in form.
-fn first_bad_pair(body: &[u8], n: usize) -> Option<usize>
-    requires { size body.now ≡ 6 + 7 * n }
+// The first of the pairs from 5 on that is not in form.
+fn first_bad_pair(body: &[u8]) -> Option<usize>
+    requires { 5 ≤ length body.now }
     ensures { MatchOption result
-        ((k : ℕ) → k < n → Paired (field (5 + 7 * k) 7 body.now))
-        (λ k. (k < n) × (Paired (field (5 + 7 * k) 7 body.now) → ⊥) × ((j : ℕ) → j < k → Paired (field (5 + 7 * j) 7 body.now))) }
+        ((k : ℕ) → 5 + 7 * k + 7 ≤ length body.now → Paired (field (5 + 7 * k) 7 body.now))
+        (λ k. (5 + 7 * k + 7 ≤ length body.now) × (Paired (field (5 + 7 * k) 7 body.now) → ⊥) × ((j : ℕ) → j < k → Paired (field (5 + 7 * j) 7 body.now))) }
 {
-    (0..n).find(|k| !is_pair(body, *k))
+    body[5..].chunks_exact(7).position(|pair| !is_pair(pair))
 }
 
 // The fault of the pair number k.
@@ -46,7 +44,7 @@ pub(crate) fn directory(body: &[u8]) -> Result<Packet, FormFault>
     if body.len() != 5 + 7 * n {
         return Err(FormFault::WrongLength);
     }
-    match first_bad_pair(body, n) {
+    match first_bad_pair(body) {
         Some(k) => Err(pair_fault(k)),
         None => Ok(Packet::Directory(pairs)),
     }

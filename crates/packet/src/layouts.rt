@@ -1,4 +1,6 @@
-// The readers of the layouts. Each gets the letter's byte too, at 0, and reads the fields behind it.
+// The readers of the layouts. Each gets the bytes up to the LF, the letter at 0, and reads the fields behind it.
+// `map_err` to `BadField` stands at each field, also in the directory: the readers are three types', no trait's here, and a helper
+// that took their answer would do no more than `map_err`.
 ghost use Rattle.std.specs.Prelude.{◌≡◌, length, MatchResult, ◌≢◌};
 ghost use Rattle.packet.specs.Verdict.{Matches};
 
@@ -43,7 +45,7 @@ fn sequenced(body: &[u8]) -> Result<Packet, FormFault>
         .map_err(|_| FormFault::BadField(1))
 }
 
-// The packet of this letter that the bytes, the letter's among them, lay out.
+// The packet of this letter that the bytes, with the letter, lay out.
 pub fn layout(letter: char, body: &[u8]) -> Result<Packet, FormFault>
     ensures { Matches letter body.now result }
 {
