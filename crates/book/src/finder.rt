@@ -1,4 +1,4 @@
-// Rows looked up, and taken out: each in a function of its own, whose promise the check proves by itself, without a written proof.
+// Rows looked up, and taken out: each in a function of its own, whose promise the check proves with no written proof.
 ghost use Rattle.std.specs.Prelude.{◌≡◌, ◌+◌, ◌<◌, ◌≤◌, length, vec_len, vec_capacity, MatchOption, slice_index_or};
 ghost use Rattle.std.specs.List.{remove};
 ghost use Rattle.book.specs.RowTests.{First, row_named};

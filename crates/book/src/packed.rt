@@ -12,8 +12,9 @@ use crate::rows::reset_row;
 use fields::{Amount, OrderId, Pair, Price};
 use std::alloc::{AllocError, Global};
 
-// The first `slots` places of the rows' memory are the book's slots. Their number stands beside the rows, since a Vec may hold more
-// room than was asked for, and the capacity is the number asked. The last fact says that the rows are those of a ladder.
+// The first `slots` places of the rows' memory are the book's slots. Their number stands beside the rows, since a Vec may
+// hold more room than was asked for, and the capacity is the number asked. The last fact says that the rows are those of a
+// ladder.
 #[derive(Drop)]
 pub struct PackedBook<T: Terms> {
     rows: Vec<Row<T::Row>>,
@@ -83,6 +84,7 @@ impl<T: Terms> Book<T> for PackedBook<T> {
         Ok(())
     }
 
+    // Not in a function of its own, as `remove` has it: which rows `retain` keeps needs a written proof there as here.
     fn clear(&mut self, pair: Pair) {
         self.rows.retain(|row| !row.is_of(&pair));
     }

@@ -8,7 +8,7 @@ use crate::order::{Order, Side, Terms};
 use crate::row::Row;
 use fields::{Amount, OrderId, Pair, Price};
 
-// Methods, named as the terms' own are, which they call. `From` is no plainer for `to_row`, whose contract names the terms' own
+// Methods, named as those of the terms, which they call. `From` is no plainer for `to_row`, whose contract names the terms' own
 // `row`, nor `TryFrom` for `from_row`, since no caller reads an error.
 impl<T: Terms> Order<T> {
     pub(crate) fn to_row(&self) -> Row<T::Row>

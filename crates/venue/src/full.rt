@@ -9,8 +9,8 @@ use crate::terms::Limits;
 use fields::{Fault, Quantity};
 use readers::Field;
 
-// The bytes of a quantity: a number, since the language takes no constant of a trait, as `<Quantity as Field>::WIDTH`, in the value
-// of a constant.
+// The bytes of a quantity: a number, since the language takes no constant of a trait, as `<Quantity as Field>::WIDTH`, in a
+// constant's value.
 const WIDTH: usize = 16;
 
 // Where the minimum quantity stands in the tail.

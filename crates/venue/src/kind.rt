@@ -6,8 +6,8 @@ ghost use Rattle.venue.specs.Form.{Form};
 use book::Terms;
 use fields::Fault;
 
-// The width and the three answers are functions of no argument, not constants of the trait: the four are fields of one record, the
-// venue's form, and a clause ties each to it. A constant would need a law of its own that does so, cited in every proof.
+// The width and the three answers are functions of no argument, not constants of the trait: the four are fields of one
+// record, the venue's form, and a clause ties each to it. A constant would need a law that does so, cited in every proof.
 // Whether Modify has a price, and whether its tail comes first there, stay two answers, though the second matters only where the
 // first is true: the venue's rules fix the two apart from each other.
 pub trait Venue {
