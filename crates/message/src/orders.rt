@@ -10,7 +10,7 @@ use book::{Order, Side};
 use fields::{Amount, OrderId, Pair, Price};
 use venue::Venue;
 
-// Whether the message has `n` bytes.
+// Refuses a message that has not `n` bytes.
 fn of_length(m: &[u8], n: usize) -> Result<(), MessageFault>
     ensures { result ≡ sized m.now n (Ok tt) }
 {
