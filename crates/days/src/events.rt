@@ -2,7 +2,7 @@
 use crate::faults::PacketFault;
 use fields::{OrderId, Pair};
 
-// An accepted packet: its letter or the end; of a message its letter, and of N, M and X pair and id.
+// An accepted packet. A message is told by its letter; of N, M and X the pair and the id are told too, of S the number of pairs.
 #[derive(Clone, Copy)]
 pub enum Event {
     // A

@@ -8,7 +8,7 @@ use thiserror::Error;
 #[derive(Drop)]
 pub struct Cutter {
     pub(crate) held: Held,
-    // the stream's bytes before the held packet
+    // The stream's bytes before the held packet.
     pub(crate) before: usize,
     // The held packet has ended, and the next take begins another. A bool, and no enum with the packet in its variants, which
     // would move 49,152 bytes at each packet.

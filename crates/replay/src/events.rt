@@ -8,7 +8,8 @@ use crate::cutter::Cutter;
 use packet::{FormFault, Packet};
 use std::fmt;
 
-// A packet in form.
+// A packet in form, as a line of the log tells it. It stands apart from the events of a day, which tell of messages and of a
+// session, and from a packet as read, which holds the fields of its head: this first form of the log lists forms alone.
 #[derive(Clone, Copy, PartialEq, Eq, Debug)]
 pub enum Event {
     // A

@@ -22,7 +22,7 @@ const USAGE: &str = "usage: replay [FILE]";
 fn replay<R: Read, W: Write>(input: &mut R, out: &mut W) -> anyhow::Result<()> {
     let mut listing = Listing::new(out);
     let mut piece = [0; 65536];
-    // one turn for each read; a loop with no bound would need a handle that may wait
+    // One turn for each read. A loop with no bound would need a handle that may wait.
     for _ in 0..u64::MAX {
         let n = input.read(&mut piece)?;
         if n == 0 {

@@ -68,6 +68,7 @@ impl Cutter {
             return None;
         }
         let whole = self.held.bytes.get(..self.held.count)?;
+        // No `split_last`: it gives none where no byte is held, and no clause here says that an ended packet holds its LF.
         Some(&whole[..whole.len().saturating_sub(1)])
     }
 

@@ -1,5 +1,5 @@
 // A snapshot message is checked whole, repeats included.
-ghost use Rattle.std.specs.Prelude.{◌≡◌, None};
+ghost use Rattle.std.specs.Prelude.{◌≡◌, ◌+◌, ◌^◌, ◌<◌, None};
 ghost use Rattle.snapshot.specs.Checked.{checked, told, PairNoted, IdNoted, PairSeen, OrderSeen, MarkSeen};
 ghost use Rattle.snapshot.specs.Snapshot.{snapshot_of};
 
@@ -14,14 +14,15 @@ use std::marker::PhantomData;
 use venue::Venue;
 
 // How many pairs a snapshot lists, and how many orders it puts.
-#[derive(Clone, Copy, PartialEq, Eq, Debug)]
+#[derive(Clone, Copy, PartialEq, Eq, Debug, Default)]
 pub struct Counts {
     pub pairs: usize,
     pub orders: usize,
 }
 
-// What was seen so far: where the bids of the pair listed last begin, the offset of the first repeat, and how many there are.
-#[derive(Clone, Copy)]
+// What was seen so far: where the bids of the pair listed last begin (0 before any pair, when no order can come), the offset of the
+// first repeat, and how many there are.
+#[derive(Clone, Copy, Default)]
 pub(crate) struct Seen {
     start: usize,
     first: Option<usize>,
@@ -50,6 +51,13 @@ fn id_repeat<V: Venue>(m: &[u8], start: usize, at: usize, id: &OrderId) -> Optio
     sought.is_put::<V>(start).then_some(at)
 }
 
+// A count and one more, where that is a `usize`.
+fn one_more(n: usize) -> usize
+    ensures { n + 1 < 2 ^ 64 → result ≡ n + 1 }
+{
+    n.saturating_add(1)
+}
+
 fn pair_seen<V: Venue>(m: &[u8], seen: Seen, at: usize, pair: &Pair) -> Seen
     ensures { PairSeen V.form m.now seen at pair.now result }
 {
@@ -57,7 +65,7 @@ fn pair_seen<V: Venue>(m: &[u8], seen: Seen, at: usize, pair: &Pair) -> Seen
         start: after(m, at, 7),
         first: seen.first.or_else(|| pair_repeat::<V>(m, at, pair)),
         counts: Counts {
-            pairs: after(m, seen.counts.pairs, 1),
+            pairs: one_more(seen.counts.pairs),
             ..seen.counts
         },
     }
@@ -71,7 +79,7 @@ fn order_seen<V: Venue>(m: &[u8], seen: Seen, at: usize, order: &Order<V::Terms>
             .first
             .or_else(|| id_repeat::<V>(m, seen.start, at, &order.id)),
         counts: Counts {
-            orders: after(m, seen.counts.orders, 1),
+            orders: one_more(seen.counts.orders),
             ..seen.counts
         },
         ..seen
@@ -104,14 +112,7 @@ fn outcome(seen: Seen) -> Result<Counts, MessageFault>
 pub fn check<V: Venue>(m: &[u8]) -> Result<Counts, MessageFault>
     ensures { result ≡ checked (snapshot_of V.form m.now) }
 {
-    let mut seen = Seen {
-        start: 0,
-        first: None,
-        counts: Counts {
-            pairs: 0,
-            orders: 0,
-        },
-    };
+    let mut seen = Seen::default();
     visit_marks::<V, Seen, Checking<V>>(m, &mut seen)?;
     outcome(seen)
 }

@@ -1,5 +1,6 @@
 // Look-ups that skip over the bytes of a snapshot. They read its counts, compare bytes at a stride, and stop at the offset up to
-// which they are asked.
+// which they are asked. Message and offset are read together, and stay two arguments: the results are offsets, which are compared
+// as values, and a struct of both would be made anew at each step.
 ghost use Rattle.std.specs.Prelude.{◌≡◌, ◌+◌, ◌*◌, ◌<◌, ◌≤◌, length, Decides};
 ghost use Rattle.message.specs.Reading.{field};
 ghost use Rattle.fields.specs.Values.{Pair};
@@ -47,14 +48,14 @@ fn order_size<V: Venue>() -> usize
     31 + V::width()
 }
 
-// The offset `k` bytes after `at`, where the message has that many.
+// The offset `k` bytes after `at`, where the message has that many. The message is an argument for the clause only.
 pub(crate) fn after(m: &[u8], at: usize, k: usize) -> usize
     ensures { at + k ≤ length m.now → result ≡ at + k }
 {
     at.saturating_add(k)
 }
 
-// The count at `at`, or 0 where there is none.
+// The count at `at`, or 0 where there is none: a look-up never fails, since the fault of the layout is told by the walk.
 fn count_at(m: &[u8], at: usize) -> usize
     ensures read { result ≡ count_in m.now at }
     ensures small { result < 10000 }
@@ -70,7 +71,8 @@ fn level_count(m: &[u8], at: usize) -> usize
     count_at(m, after(m, at, 10))
 }
 
-// Where a level at `at` of `count` orders ends.
+// Where a level at `at` of `count` orders ends. Counts are plain numbers here: one is 0 where none is read, and an `Integer<4>`
+// of 0 comes only as an `Option`.
 fn orders_end<V: Venue>(m: &[u8], at: usize, count: usize) -> usize
     requires { count < 10000 }
     ensures { at + (14 + count * order_width V.form) ≤ length m.now → result ≡ at + (14 + count * order_width V.form) }
@@ -143,7 +145,7 @@ impl Sought<'_> {
         false
     }
 
-    // Over the level at `at`.
+    // Looks through the level at `at`: whether the id was met, or where the level ends.
     fn level<V: Venue>(&self, at: usize) -> ControlFlow<bool, usize>
         ensures { (c : Pair) (s : Side) → Skims self.now.upto self.now.id.now (level_at V.form self.now.m.now c s at) result }
     {
@@ -158,21 +160,21 @@ impl Sought<'_> {
         ControlFlow::Continue(orders_end::<V>(self.m, at, count))
     }
 
-    // Over `n` levels from `at`.
+    // Looks through `n` levels from `at`.
     fn levels<V: Venue>(&self, at: usize, n: usize) -> ControlFlow<bool, usize>
         ensures { (c : Pair) (s : Side) → Skims self.now.upto self.now.id.now (times (level_at V.form self.now.m.now c s) n at) result }
     {
         (0..n).try_fold(at, |at, _| self.level::<V>(at))
     }
 
-    // Over the side at `at`.
+    // Looks through the side at `at`.
     fn side<V: Venue>(&self, at: usize) -> ControlFlow<bool, usize>
         ensures { (c : Pair) (s : Side) → Skims self.now.upto self.now.id.now (side_at V.form self.now.m.now c s at) result }
     {
         self.levels::<V>(after(self.m, at, 4), count_at(self.m, at))
     }
 
-    // Over the bids at `at` and the offers behind them.
+    // Looks through the bids at `at`, and then the offers behind them.
     fn sides<V: Venue>(&self, at: usize) -> ControlFlow<bool, usize>
         ensures { (c : Pair) → Skims self.now.upto self.now.id.now (sides_at V.form self.now.m.now c at) result }
     {

@@ -7,7 +7,7 @@ use book::Terms;
 
 // A trait and no closure: a public call that takes a closure asks its callers for a `requires`.
 pub trait Task<T: Terms, S> {
-    // what a visit makes of the state, in this message
+    // What a visit makes of the state, in this message.
     ghost steps: { List ℕ → S → Mark T → S → Type 0 };
 
     fn visit(m: &[u8], state: &mut S, mark: &Mark<T>)

@@ -1,5 +1,6 @@
-// A walk over the bytes of a snapshot, which does a task at each pair and each order in layout order. Message, state and offset
-// stay arguments of their own: a struct of them would hold a `&mut` that each step has to lend on.
+// A walk over the bytes of a snapshot, which does a task at each pair and each order in layout order. Message and state stay
+// arguments of their own. A struct with a reference to the message and a `&mut` to the state would be no plainer: each function
+// would be its method, and the contracts would speak of the struct's fields before and after.
 ghost use Rattle.std.specs.Prelude.{◌≡◌};
 ghost use Rattle.snapshot.specs.Named.{named_at};
 ghost use Rattle.snapshot.specs.Scanning.{field_at, tail_then, times};
@@ -90,8 +91,8 @@ fn order<V: Venue, S, K: Task<V::Terms, S>>(
     Ok(end)
 }
 
-// `n` orders from `at`. The loops over orders, prices and pairs stay three: one for all would take the step as a closure that lends
-// the state on.
+// `n` orders from `at`. `(0..n).try_fold` was tried here: after that call nothing is known of the state that its closure changed,
+// and the proof did not close. The loops over orders, prices and pairs stay three: one for all would take the step as a closure too.
 #[tactic(auto, using(crate::proofs::Walks::turns))]
 fn orders<V: Venue, S, K: Task<V::Terms, S>>(
     m: &[u8],
