@@ -1,5 +1,5 @@
 -- What the bytes of a decimal's field are found to be.
-use Rattle.std.proofs.Common.{◌≡◌, ℕ, ◌-◌, Bool, true, List, replicate, Some, None, Option, Result, sym, refl, ap, subst, ◌∙◌, inl, inr, ⊎_elim, arith}
+use Rattle.std.proofs.Common.{◌≡◌, ℕ, Bool, true, List, Some, None, Option, Result, sym, refl, subst, ◌∙◌, inl, inr, ⊎_elim}
 use Rattle.std.specs.Option.{ok_or, option_or}
 use Rattle.digits.specs.Calls.{Only}
 use Rattle.digits.specs.Numerals.{DecimalField}
@@ -8,7 +8,7 @@ use Rattle.digits.proofs.Shapes.{blank_none}
 use Rattle.fields.specs.declared.fault.Fault.{Fault}
 use Rattle.fields.specs.declared.fault.Fault.TheVariants.{NotInForm}
 use Rattle.fields.specs.Calls.{Found, Makes, Reads}
-use Rattle.fields.specs.Decimals.{Blank, CountText, count_text}
+use Rattle.fields.specs.Decimals.{Blank, CountText}
 
 -- what is found is read, and 43 where nothing is
 found_read : {V X : Type 0} (Field : List ℕ → X → Type 0) (value : V → X) (bs : List ℕ) (o : Option V) → Found Field value bs o → Reads Field value bs (ok_or o NotInForm)
@@ -54,7 +54,3 @@ module _ {V : Type 0} (width places : ℕ) (may : ℕ → Bool) (Field : List �
 
   pub no_count_found : (o : Option V) → o ≡ None → Only (CountText width places bs) None → Found Field value bs o
   no_count_found o e none = none_found Field value bs o e (λ m f. none m (to bs m f).0)
-
--- what is written of 0
-pub blank_text : (width places n : ℕ) → n ≡ 0 → replicate width 32 ≡ count_text width places n
-blank_text width places n z = let e : width ≡ width - 0 = omega arith in ap (λ w. replicate w 32) e ∙ ap (count_text width places) (sym z)
