@@ -1,5 +1,5 @@
 -- What look-ups in the bytes say of what a scan lists.
-use Rattle.std.proofs.Common.{Bor, None, take, drop, take_all, ◌≡◌, ℕ, zero, suc, ◌+◌, ◌-◌, ◌*◌, ◌^◌, ◌<◌, ◌≤◌, min, Bool, true, false, cond, ◌&&◌, ◌||◌, eqb, ltb, List, [], ◌∷◌, ◌++◌, length, Some, Ok, Err, Decides, Option, Result, sym, refl, ap, ◌∙◌, subst, inl, inr, suc-mul, zero-mul, arith, length-drop, length-take}
+use Rattle.std.proofs.Common.{Bor, None, take, drop, take_all, ◌≡◌, ℕ, zero, suc, ◌+◌, ◌-◌, ◌*◌, ◌<◌, ◌≤◌, Bool, true, false, cond, ◌&&◌, ◌||◌, eqb, ltb, List, [], ◌∷◌, ◌++◌, length, Some, Ok, Err, Decides, Option, Result, sym, refl, ap, ◌∙◌, subst, inl, inr, suc-mul, zero-mul, arith, length-drop, length-take}
 use Rattle.std.specs.declared.ops.ControlFlow.{ControlFlow}
 use Rattle.std.specs.declared.ops.ControlFlow.TheVariants.{Continue, Break}
 use Rattle.std.specs.declared.ops.Range.{Range}
