@@ -1,15 +1,16 @@
 -- What look-ups in the bytes say of what a scan lists.
-use Rattle.std.proofs.Common.{Bor, None, take, drop, take_all, ◌≡◌, ℕ, zero, suc, ◌+◌, ◌-◌, ◌*◌, ◌^◌, ◌<◌, ◌≤◌, min, Bool, true, false, cond, ◌&&◌, ◌||◌, eqb, ltb, List, [], ◌∷◌, ◌++◌, length, Some, Ok, Err, Decides, Option, Result, sym, refl, ap, ◌∙◌, subst, inl, inr, suc-mul, zero-mul, arith, length-drop, length-take}
+use Rattle.std.proofs.Common.{Bor, None, take, drop, take_all, ◌≡◌, ℕ, zero, suc, ◌+◌, ◌-◌, ◌*◌, ◌<◌, ◌≤◌, Bool, true, false, cond, ◌&&◌, ◌||◌, eqb, ltb, List, [], ◌∷◌, ◌++◌, length, Some, Ok, Err, Decides, Option, Result, sym, refl, ap, ◌∙◌, subst, inl, inr, suc-mul, zero-mul, arith, length-drop, length-take}
 use Rattle.std.specs.declared.ops.ControlFlow.{ControlFlow}
 use Rattle.std.specs.declared.ops.ControlFlow.TheVariants.{Continue, Break}
 use Rattle.std.specs.declared.ops.Range.{Range}
 use Rattle.std.specs.Cmp.Lexicographic.{pointwise}
-use Rattle.std.specs.Option.{MatchOption}
+use Rattle.std.specs.Option.{MatchOption, IfSome, IsSomeAnd, option_map}
+use Rattle.std.specs.Bool.{MatchBool}
 use Rattle.std.specs.Iterator.{Yields, YieldsThen}
 use Rattle.std.specs.Slice.{IsGetRangeResult}
 use Rattle.std.specs.List.{FoldsTo, list_any}
 use Rattle.std.specs.Str.{bytes_eq}
-use Rattle.std.proofs.Math.Bool.{or-false, and-false}
+use Rattle.std.proofs.Math.Bool.{or-false, or-true, and-false}
 use Rattle.std.proofs.lemmas.List.Folds.{list_any-append}
 use Rattle.std.proofs.lemmas.Slice.Eq.{bytes_eq-Decides}
 use Rattle.std.proofs.lemmas.Bool.{both_ways, lt-ltb, le-ltb, cond-true, cond-false, cases_lt, eqb-false}
@@ -56,37 +57,53 @@ same_told m bs at (Some x) r g h f =
       λ t. told ∙ same.1 (sym t.1),
     )
 
--- Ids at a stride, of which i of n are passed.
+-- Ids at a stride.
 module _ (m : List ℕ) (upto : ℕ) (id : List ℕ) (step : ℕ) where
+  pub strided_none : (n at : ℕ) → ((k : ℕ) → k < n → at + k * step < upto → bytes_eq (field (at + k * step) 15 m) id ≡ false) → strided m upto id step n at ≡ false
+  unfolding strided
+  strided_none zero at h = refl
+  strided_none (suc n) at h =
+      let here : ltb at upto && bytes_eq (field at 15 m) id ≡ false = elim (cases_lt at upto) [
+        | inl l ↦
+            let first : at + 0 * step ≡ at = omega (arith, zero-mul step) in
+            ap (λ b. ltb at upto && b) (subst (λ p. bytes_eq (field p 15 m) id ≡ false) first (h 0 (omega arith) (omega arith))) ∙ and-false (ltb at upto)
+        | inr l ↦ ap (λ b. b && bytes_eq (field at 15 m) id) (le-ltb at upto l)
+      ] in
+      ap (λ b. b || strided m upto id step n (at + step)) here ∙ strided_none n (at + step) (λ k l u.
+      let next : at + suc k * step ≡ at + step + k * step = omega (arith, suc-mul k step) in
+      subst (λ p. bytes_eq (field p 15 m) id ≡ false) next (h (suc k) (omega arith) (omega arith)))
+
+  pub strided_some : (n at k : ℕ) → k < n → at + k * step < upto → bytes_eq (field (at + k * step) 15 m) id ≡ true → strided m upto id step n at ≡ true
+  unfolding strided
+  strided_some zero at k l u e = absurd (omega arith)
+  strided_some (suc n) at zero l u e =
+      let first : at + 0 * step ≡ at = omega (arith, zero-mul step) in
+      ap (λ b. (b && bytes_eq (field at 15 m) id) || strided m upto id step n (at + step)) (lt-ltb at upto (omega arith)) ∙ ap (λ b. b || strided m upto id step n (at + step)) (subst (λ p. bytes_eq (field p 15 m) id ≡ true) first e)
+  strided_some (suc n) at (suc k) l u e =
+      let next : at + suc k * step ≡ at + step + k * step = omega (arith, suc-mul k step) in
+      ap (λ b. (ltb at upto && bytes_eq (field at 15 m) id) || b) (strided_some n (at + step) k (omega arith) (omega arith) (subst (λ p. bytes_eq (field p 15 m) id ≡ true) next e)) ∙ or-true (ltb at upto && bytes_eq (field at 15 m) id)
+
   -- none from the offset on
   pub strided_past : (n at : ℕ) → upto ≤ at → strided m upto id step n at ≡ false
-  unfolding strided
-  strided_past zero at h = refl
-  strided_past (suc n) at h = ap (λ b. (b && bytes_eq (field at 15 m) id) || strided m upto id step n (at + step)) (le-ltb at upto h) ∙ strided_past n (at + step) (omega arith)
+  strided_past n at h = strided_none n at (λ k l u. absurd (omega arith))
 
-  pub strided_none : (n i at : ℕ) → n ≤ i → strided m upto id step (n - i) at ≡ false
-  unfolding strided
-  strided_none n i at h = let z : n - i ≡ 0 = omega arith in ap (λ k. strided m upto id step k at) z
+  -- What a chain over the ids answers: each that it gave, of len, stands in its place before the offset.
+  module _ (n at len : ℕ) (item : ℕ → Option ℕ) (places : (k : ℕ) → IfSome (item k) (λ x. (x ≡ at + k * step) × (x < upto))) (short : len ≤ n) {Y N : ℕ → Type 0} (yes : (x : ℕ) → Y x → bytes_eq (field x 15 m) id ≡ true) (no : (x : ℕ) → N x → bytes_eq (field x 15 m) id ≡ false) where
+    placed : (o : Option ℕ) (k : ℕ) → IfSome o (λ x. (x ≡ at + k * step) × (x < upto)) → IsSomeAnd o Y → (at + k * step < upto) × Y (at + k * step)
+    placed None k a h = absurd h
+    placed (Some x) k a h = (omega (arith, a.0, a.1), subst Y a.0 h)
 
-  module _ (at : ℕ) (r : Bool) (is : r ≡ bytes_eq (field at 15 m) id) (n i : ℕ) (turn : i < n) where
-    abbrev Onward : Bool → Bool
-    Onward b = b || strided m upto id step (n - (i + 1)) (at + step)
+    passed : (o : Option ℕ) (k v : ℕ) → IfSome o (λ x. (x ≡ at + k * step) × (x < upto)) → option_map (λ (y : ℕ). y) o ≡ Some v → IfSome o N → N (at + k * step)
+    passed None k v a e h = let z : ◌≡◌ {A = ℕ} 0 1 = cc in absurd (omega arith)
+    passed (Some x) k v a e h = subst N a.0 h
 
-    one_more : strided m upto id step (n - i) at ≡ Onward (ltb at upto && r)
-    unfolding strided
-    one_more = let z : n - i ≡ suc (n - (i + 1)) = omega arith in ap (λ k. strided m upto id step k at) z ∙ ap (λ b. Onward (ltb at upto && b)) (sym is)
-
-    pub strided_here : at < upto → r ≡ true → strided m upto id step (n - i) at ≡ true
-    strided_here l e = one_more ∙ ap (λ b. Onward (b && r)) (lt-ltb at upto l) ∙ ap Onward e
-
-    further : (next : ℕ) → upto ≤ 2 ^ 64 - 1 → next ≡ min (at + step) (2 ^ 64 - 1) → strided m upto id step (n - (i + 1)) (at + step) ≡ strided m upto id step (n - (i + 1)) next
-    further next u h = elim (cases_lt (at + step) (2 ^ 64)) [
-      | inl l ↦ let e : at + step ≡ next = omega arith in ap (λ k. strided m upto id step (n - (i + 1)) k) e
-      | inr l ↦ strided_past (n - (i + 1)) (at + step) (omega arith) ∙ sym (strided_past (n - (i + 1)) next (omega arith))
-    ]
-
-    pub strided_next : (next : ℕ) → r ≡ false → upto ≤ 2 ^ 64 - 1 → next ≡ min (at + step) (2 ^ 64 - 1) → strided m upto id step (n - i) at ≡ strided m upto id step (n - (i + 1)) next
-    strided_next next e u k = one_more ∙ ap (λ b. Onward (ltb at upto && b)) e ∙ ap Onward (and-false (ltb at upto)) ∙ further next u k
+    pub strided_told : (r : Bool) {K W : Type 0} → K → MatchBool r (K → (k : ℕ) × (k < len) × IsSomeAnd (item k) Y) (W × (K → (k : ℕ) → IfSome (item k) N))
+        → (W → (k : ℕ) → k < n → at + k * step < upto → (v : ℕ) × (option_map (λ (y : ℕ). y) (item k) ≡ Some v)) → r ≡ strided m upto id step n at
+    strided_told true keeps g all =
+        let h = g keeps in
+        let i = placed (item h.0) h.0 (places h.0) h.2 in
+        sym (strided_some n at h.0 (omega (arith, h.1)) i.0 (yes (at + h.0 * step) i.1))
+    strided_told false keeps h all = sym (strided_none n at (λ k l u. let v = all h.0 k l u in no (at + k * step) (passed (item k) k v.0 (places k) v.1 (h.1 keeps k))))
 
 -- What a scan without fault says of its parts.
 no : {X A : Type 0} {v : A} {y : MessageFault} → ◌≡◌ {A = Result A MessageFault} (Err y) (Ok v) → X

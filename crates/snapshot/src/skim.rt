@@ -2,6 +2,7 @@
 // which they are asked. Message and offset are read together, and stay two arguments: the results are offsets, which are compared
 // as values, and a struct of both would be made anew at each step.
 ghost use Rattle.std.specs.Prelude.{◌≡◌, ◌+◌, ◌*◌, ◌<◌, ◌≤◌, length, Decides};
+ghost use Rattle.std.specs.Str.{bytes_eq};
 ghost use Rattle.message.specs.Reading.{field};
 ghost use Rattle.fields.specs.Values.{Pair};
 ghost use Rattle.book.specs.declared.order.Side.{Side};
@@ -128,21 +129,23 @@ pub(crate) fn pair_met<V: Venue>(m: &[u8], upto: usize, pair: &[u8; 7]) -> bool
 }
 
 impl Sought<'_> {
-    // Whether one of `n` ids from `at`, each `step` bytes after the last, stands before the offset and is this one.
-    fn met(&self, mut at: usize, n: usize, step: usize) -> bool
-        ensures { result ≡ strided self.now.m.now self.now.upto self.now.id.now step n at }
+    // Whether the id stands at `at`.
+    fn is_at(&self, at: usize) -> bool
+        ensures { result ≡ bytes_eq (field at 15 self.now.m.now) self.now.id.now }
     {
         let id = self.id;
-        for _ in 0..n {
-            if at >= self.upto {
-                return false;
-            }
-            if same_at(self.m, at, id) {
-                return true;
-            }
-            at = at.saturating_add(step);
-        }
-        false
+        same_at(self.m, at, id)
+    }
+
+    // Whether one of `n` ids from `at`, each `step` bytes after the last, stands before the offset and is this one.
+    fn met(&self, at: usize, n: usize, step: usize) -> bool
+        requires { 0 < step }
+        ensures { result ≡ strided self.now.m.now self.now.upto self.now.id.now step n at }
+    {
+        (at..self.upto)
+            .step_by(step)
+            .take(n)
+            .any(|at| self.is_at(at))
     }
 
     // Looks through the level at `at`: whether the id was met, or where the level ends.

@@ -1,4 +1,4 @@
-use Rattle.std.proofs.Common.{ℕ, refl, subst, rules}
+use Rattle.std.proofs.Common.{ℕ, subst, rules}
 use Rattle.snapshot.specs.Scanning.{times}
 use Rattle.snapshot.specs.Skims.{Ends}
 use Rattle.snapshot.specs.Snapshot.{level_at}

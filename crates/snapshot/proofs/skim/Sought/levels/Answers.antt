@@ -1,4 +1,4 @@
-use Rattle.std.proofs.Common.{ℕ, refl, subst, rules}
+use Rattle.std.proofs.Common.{rules}
 use Rattle.snapshot.specs.Snapshot.{level_at}
 use Rattle.snapshot.proofs.Skims.{level_unmet, skims_tried}
 use Rattle.snapshot.proofs.skim.Sought.levels.Goals as goal
