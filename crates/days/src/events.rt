@@ -2,7 +2,7 @@
 use crate::faults::PacketFault;
 use fields::{OrderId, Pair};
 
-// An accepted packet. A message is told by its letter; of N, M and X the pair and the id are told too, of S the number of pairs.
+// An accepted packet. Of a message its letter is told, of N, M and X also the pair and the id, and of S the number of pairs.
 #[derive(Clone, Copy)]
 pub enum Event {
     // A

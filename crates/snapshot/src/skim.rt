@@ -110,7 +110,8 @@ fn pair_end<V: Venue>(m: &[u8], at: usize) -> usize
     side_end::<V>(m, offers)
 }
 
-// Whether the snapshot lists the pair before `upto`.
+// Whether the snapshot lists the pair before `upto`. A loop and no `try_fold`: its step would need a definition of what it answers,
+// as `Skims` is for an id.
 pub(crate) fn pair_met<V: Venue>(m: &[u8], upto: usize, pair: &[u8; 7]) -> bool
     ensures { ListsPair upto pair.now (snapshot_of V.form m.now) result }
 {

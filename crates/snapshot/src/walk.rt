@@ -92,7 +92,8 @@ fn order<V: Venue, S, K: Task<V::Terms, S>>(
 }
 
 // `n` orders from `at`. `(0..n).try_fold` was tried here: after that call nothing is known of the state that its closure changed,
-// and the proof did not close. The loops over orders, prices and pairs stay three: one for all would take the step as a closure too.
+// and the proof did not close. The loops over orders, prices and pairs stay three, since one for all would take the step as a
+// closure too.
 #[tactic(auto, using(crate::proofs::Walks::turns))]
 fn orders<V: Venue, S, K: Task<V::Terms, S>>(
     m: &[u8],
