@@ -11,7 +11,7 @@ use book::Book;
 use message::MessageFault;
 use venue::Venue;
 
-// The first byte, if there is one.
+// The first byte, if there is one: a `char` that is matched against char literals, as the packet's letter is.
 fn letter(m: &[u8]) -> Option<char>
     ensures { result ≡ slice_get m.now 0 }
 {

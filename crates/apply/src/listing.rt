@@ -54,6 +54,7 @@ impl<'a, V: Venue> Listing<'a, V> {
     }
 
     // Whether the snapshot lists the pair.
+    // A walk for each pair asked, and no set of pairs: nothing is allocated after making.
     fn lists(&self, pair: Pair) -> bool
         ensures { result ≡ lists (listed_in V.form self.now.m.now) pair }
     {
@@ -93,7 +94,8 @@ impl<'a, V: Venue> Listing<'a, V> {
     fn kept<B: Book<V::Terms>>(&self, book: &B) -> usize
         ensures { result ≡ length (cleared_all (listed_in V.form self.now.m.now) (B.Book.ladder book.now)) }
     {
-        // A loop by rank: a book is asked by rank, and the last answer serves all orders of its pair.
+        // A loop by rank, and no `filter` and `count`: a book is asked by rank, and each answer is handed on to the next rank, since it
+        // serves all orders of its pair.
         let len = book.len();
         let mut n: usize = 0;
         let mut last: Option<Asked> = None;

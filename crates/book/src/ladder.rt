@@ -83,6 +83,7 @@ pub trait Book<T: Terms> {
 // A book that is made from a storage.
 pub trait MadeBook<T: Terms>: Book<T> + Sized {
     // An empty book of `slots` slots, or 512 if `slots` is more. No later call allocates.
+    // Heap and slots stay two arguments: a heap is handed to whatever allocates, and has no part in a book's size.
     fn new(heap: Global, slots: usize) -> Result<Self, AllocError>
         ensures { Makes Self.Book.capacity Self.Book.ladder slots result };
 }

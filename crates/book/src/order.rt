@@ -24,6 +24,7 @@ impl fmt::Display for Side {
 
 // What an order carries besides its common fields. By the project's rule values lie in slots, and in any other table, as plain
 // rows, so terms have a row of their own: any row gives some terms, and the row of terms gives back those terms.
+// Any row gives some terms, and no Option: so the fact that a book keeps of its rows need not speak of terms.
 pub trait Terms: Copy {
     type Row: Copy;
 

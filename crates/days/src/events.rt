@@ -3,6 +3,7 @@ use crate::faults::PacketFault;
 use fields::{OrderId, Pair};
 
 // An accepted packet. Of a message its letter is told, of N, M and X also the pair and the id, and of S the number of pairs.
+// No `Message` of `apply` in it: that one carries the venue's terms, and an event is one type at every venue.
 #[derive(Clone, Copy)]
 pub enum Event {
     // A

@@ -12,6 +12,7 @@ pub struct DecimalForm {
 
 // `count` units of the last of the places, at the left of `width` bytes.
 #[derive(Clone, Copy)]
+// No `DecimalForm` in it: that one bounds the width, and a text has no such bound.
 pub struct DecimalText {
     pub count: u64,
     pub width: usize,

@@ -24,7 +24,7 @@ pub(crate) fn all_printable(s: &[u8]) -> bool
     s.iter().all(|b| is_printable(*b))
 }
 
-// Writes a text at `at`.
+// Writes a text at `at`: `digits::put`, with its fault lifted into a field's.
 pub(crate) fn put(out: &mut [u8], at: usize, text: &[u8]) -> Result<(), Fault>
     ensures { Writes text.now out.old at result out.new }
 {

@@ -75,11 +75,7 @@ fn lies_between(least: u64, most: u64, n: u64) -> bool
 fn zero_in(bytes: &[u8], width: usize) -> Option<u64>
     ensures { Only (λ n. Blank width bytes.now × (n ≡ 0)) result }
 {
-    if bytes.len() == width && digits::spaces(bytes, 0) {
-        Some(0)
-    } else {
-        None
-    }
+    (bytes.len() == width && digits::spaces(bytes, 0)).then_some(0)
 }
 
 // Writes `width` spaces at `at`.

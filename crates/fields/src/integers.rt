@@ -51,7 +51,8 @@ impl<const W: usize> Integer<W> {
         Ok(text.write(out, at)?)
     }
 
-    // The integer of this value. No `TryFrom`, and no `From` for `value`: they are a pair whose contracts are clauses.
+    // The integer of this value. No `TryFrom`: as at decimals, there is no error to tell. An `if`, and no `then_some`: the integer
+    // is made only where the test gave the fact that it keeps.
     pub fn from_value(value: u64) -> Option<Integer<W>>
         ensures { Makes (IntegerValue W) (λ (n : Integer W). n.value) value result }
     {

@@ -35,6 +35,7 @@ impl DecimalKind for PriceKind {
     ghost laws = { price_laws };
 }
 
+// Kinds by name, and no one kind over four numbers: amounts and quantities differ in the least count alone.
 // Amounts, counted in hundredths.
 #[derive(Clone, Copy, PartialEq, Eq, Debug)]
 pub struct AmountKind;

@@ -13,6 +13,7 @@ pub fn fields_hold()
     ensures { FieldLaws }
 {}
 
+// One function for each type: what each promises is proved of that type's own derived comparison.
 // Two decimals of a kind are equal exactly when they are the same.
 pub fn decimals_compared<K: DecimalKind>()
     ensures { (a b : Decimal K K.DecimalKind) → Decides (⟦<Decimal<K> as PartialEq>⟧.eq a b) (a ≡ b) }

@@ -8,7 +8,8 @@ use crate::fault::MessageFault;
 const MESSAGE_AT: usize = 10;
 
 impl MessageFault {
-    // Its number in the table of refusals. No `From` for a number: which number it is, is for the name to say.
+    // Its number in the table of refusals. No `From` for a number: which number it is, is for the name to say; and no trait over
+    // the refusals that have one: no code takes any one of them.
     pub fn number(&self) -> u8
         ensures { result ≡ number self.now }
     {

@@ -114,6 +114,7 @@ fn read_reprice<V: Venue>(m: &[u8]) -> Result<Modify<V::Terms>, MessageFault>
 }
 
 // Modify, in the venue's form.
+// A test of the venue's form, here and above, and no method of the venue: the layouts are written once, over any form.
 pub fn read_modify<V: Venue>(m: &[u8]) -> Result<Modify<V::Terms>, MessageFault>
     ensures { result ≡ modify_of V.form m.now }
 {

@@ -7,6 +7,8 @@ use readers::Field;
 use venue::Venue;
 
 // The bytes of a field, unless it is cut short.
+// Message and offset stay two arguments, here and above: a fault names its offset in the whole message, which a slice would
+// not tell. So do offset and width: the one is the caller's, the other the field's.
 fn part(m: &[u8], at: usize, width: usize) -> Result<&[u8], MessageFault>
     ensures { MatchResult result
         (λ f. (at + width ≤ length m.now) × (f.now ≡ field at width m.now))

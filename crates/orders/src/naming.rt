@@ -32,6 +32,7 @@ pub(crate) fn target_of<T: Copy>(change: &Modify<T>) -> OrderId
 pub(crate) fn target_at<V: Venue>(replaced: Option<OrderId>) -> usize
     ensures { result ≡ target_at V.form replaced }
 {
+    // A match: whether there is a replaced id is asked, and the id itself is not read.
     match replaced {
         Some(_) => replaced_at::<V>(),
         None => ID_AT,

@@ -12,6 +12,7 @@ pub const LONGEST: usize = 49_152;
 
 // The offset of the first byte that is not printable.
 // A loop with index, which stops at that byte: the form that the project asks for.
+// The test of one byte stands in `fields` too, which does not publish it; one line is left in each.
 pub fn first_unprintable(body: &[u8]) -> Option<usize>
     ensures { MatchOption result
         (PrintableTo body.now (length body.now))

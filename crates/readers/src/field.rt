@@ -3,6 +3,7 @@ ghost use Rattle.std.specs.Prelude.{◌≡◌, ℕ, List, Option};
 ghost use Rattle.readers.specs.Laws.{BlankFree, FieldLaw};
 
 // A value that stands in a field of fixed width.
+// Three impls for the three types of `fields`: these share no trait there, and each has a law of its own.
 pub trait Field: Sized {
     // How many bytes the field has.
     const WIDTH: usize;

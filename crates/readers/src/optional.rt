@@ -30,6 +30,7 @@ impl<F: Filled> Field for Option<F> {
         if is_blank(bytes, F::WIDTH) {
             return Some(None);
         }
+        // `map(Some)` was tried here, and the proof did not close.
         let value = F::read(bytes)?;
         Some(Some(value))
     }

@@ -65,6 +65,7 @@ impl fmt::Display for Report {
 }
 
 // The event of a packet in form.
+// No `From`: the letter of a message stands in the bytes, and not in the packet.
 fn event_of(packet: Packet, body: &[u8]) -> Event
     requires { LaidOut body.now packet }
     ensures { result ≡ packet_event packet body.now }

@@ -33,6 +33,7 @@ pub(crate) struct Seen {
 struct Checking<V>(PhantomData<V>);
 
 // The repeat at the pair at `at`, if it is one.
+// Repeats are looked for in the message's bytes, and in no set: nothing is allocated after making.
 fn pair_repeat<V: Venue>(m: &[u8], at: usize, pair: &Pair) -> Option<usize>
     ensures { PairNoted V.form m.now None at pair.now.bytes result }
 {
@@ -98,6 +99,7 @@ impl<V: Venue> Task<V::Terms, Seen> for Checking<V> {
 }
 
 // The counts, unless there was a repeat.
+// A match: of the methods only `map_or` makes an error of what an Option holds, and it would take both answers too.
 fn outcome(seen: Seen) -> Result<Counts, MessageFault>
     ensures { result ≡ told seen.first seen.counts }
 {

@@ -32,6 +32,7 @@ fn same_at(m: &[u8], at: usize, bytes: &[u8]) -> bool
 }
 
 // The offset of the id in an order.
+// As `replaced_at` of `message`, with another test and offset: a shared one would take both as arguments at each call.
 fn id_place<V: Venue>() -> usize
     ensures { result ≡ id_offset V.form }
 {

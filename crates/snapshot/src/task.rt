@@ -5,7 +5,7 @@ ghost use Rattle.snapshot.specs.declared.mark.Mark.{Mark};
 use crate::mark::Mark;
 use book::Terms;
 
-// A trait and no closure: a public call that takes a closure asks its callers for a `requires`.
+// A trait and no closure: a public function that calls a closure needs a `requires`, and no public function has one.
 pub trait Task<T: Terms, S> {
     // What a visit makes of the state, in this message.
     ghost steps: { List ℕ → S → Mark T → S → Type 0 };

@@ -36,6 +36,7 @@ fn next_tail<V: Venue>(m: &[u8], at: usize) -> Result<(V::Terms, usize), Message
 
 // The id and the terms at `at`, in the venue's order, with the offset of the id; and the offset after them.
 #[tactic(auto, unfolding(crate::specs::Named::named_at))]
+// As `read_end` of `message`, with another field beside the tail, and with the offsets.
 fn named<V: Venue>(m: &[u8], at: usize) -> Result<((usize, OrderId, V::Terms), usize), MessageFault>
     ensures { result ≡ named_at V.form m.now at }
 {
@@ -58,6 +59,7 @@ struct BookSide {
 
 // One price of a side: what its orders share.
 #[derive(Clone, Copy)]
+// Its own pair and side, and no `BookSide` in it: an order takes the two field by field.
 struct PriceLevel {
     pair: Pair,
     side: Side,
