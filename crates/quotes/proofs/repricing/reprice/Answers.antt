@@ -1,16 +1,8 @@
-use Rattle.std.proofs.Common.{◌≤◌, length, sym, refl, ◌∙◌, subst}
+use Rattle.std.proofs.Common.{◌≤◌, length, sym, ◌∙◌, subst}
 use Rattle.std.proofs.lemmas.Result.{err_from_is_err_and}
 use Rattle.book.specs.Calls.{Place}
-use Rattle.quotes.proofs.Repriced.{replaced, standing_is, not_found, not_removed}
+use Rattle.quotes.proofs.Repriced.{replaced, standing_is, not_removed}
 use Rattle.quotes.proofs.repricing.reprice.Goals as goal
-
-pub returns-in_err-old : goal.returns-in_err-old
-returns-in_err-old g c =
-    let e = err_from_is_err_and c.from_residual.result c.from_residual.ensures.1 in
-    record {
-      reprice = not_found (g.B.Book.ladder c.args.book.now) c.args.pair c.args.id c.args.price c.standing.result c.from_residual.result e.0 c.in_err-old.field-0.0 e.1 e.2 c.in_err-old.ensures.value c.standing.ensures;
-      kept = refl;
-    }
 
 pub returns-in_err-remove : goal.returns-in_err-remove
 returns-in_err-remove g c =
