@@ -1,13 +1,14 @@
 -- What the log says of a packet.
-use Rattle.std.specs.Prelude.{◌≡◌, ℕ, List, Some, None, Ok, Err, Option, Result, slice_index}
+use Rattle.std.specs.Prelude.{◌≡◌, ℕ, List, ◌++◌, Some, None, Ok, Err, Option, Result, slice_index, codes, decimal, encode_utf8}
 use Rattle.packet.specs.Layouts.{LaidOut}
-use Rattle.packet.specs.Faults.{Faulty}
+use Rattle.packet.specs.Faults.{Faulty, number, offset}
 use Rattle.packet.specs.declared.packets.Packet.{Packet}
 use Rattle.packet.specs.declared.packets.Packet.TheVariants as packet
 use Rattle.packet.specs.declared.packets.FormFault.{FormFault}
 use Rattle.packet.specs.declared.packets.FormFault.TheVariants.{TooLong}
 use Rattle.replay.specs.declared.events.Event.{Event}
 use Rattle.replay.specs.declared.events.Event.TheVariants as event
+use Rattle.replay.specs.declared.events.Report.{Report}
 
 -- the packet's kind, with the number of pairs of a directory and the first byte of a message
 abbrev pub packet_event : Packet → List ℕ → Event
@@ -25,3 +26,22 @@ Reported None (Ok e) = ⊥
 Reported None (Err f) = f ≡ TooLong
 Reported (Some bs) (Ok e) = (p : Packet) × LaidOut bs p × (e ≡ packet_event p bs)
 Reported (Some bs) (Err f) = Faulty bs f
+
+-- the event as it is printed
+abbrev pub event_text : Event → List ℕ
+event_text event.LoginAccepted = codes "A"
+event_text event.LoginRejected = codes "J"
+event_text event.Heartbeat = codes "H"
+event_text event.ErrorNotification = codes "E"
+event_text event.EndOfSession = codes "end"
+event_text (event.Directory pairs) = codes "R " ++ decimal pairs
+event_text (event.Message letter) = codes "S " ++ encode_utf8 letter
+
+-- what is printed of a packet behind its place
+abbrev pub outcome_text : Result Event FormFault → List ℕ
+outcome_text (Ok e) = event_text e
+outcome_text (Err f) = codes "fault " ++ (decimal (number f) ++ (codes " packet " ++ decimal (offset f)))
+
+-- the line of a packet, without its LF
+abbrev pub report_text : Report → List ℕ
+report_text r = decimal r.place ++ (codes " " ++ outcome_text r.outcome)

@@ -2,7 +2,7 @@
 ghost use Rattle.std.specs.Prelude.{◌≡◌, Some};
 ghost use Rattle.packet.specs.Layouts.{LaidOut};
 ghost use Rattle.replay.specs.Cutting.{last};
-ghost use Rattle.replay.specs.Events.{packet_event, Reported};
+ghost use Rattle.replay.specs.Events.{packet_event, Reported, event_text, report_text};
 
 use crate::cutter::Cutter;
 use packet::{FormFault, Packet};
@@ -36,6 +36,8 @@ pub struct Report {
 }
 
 impl fmt::Display for Event {
+    ghost output = { λ event. Some (event_text event) };
+
     fn fmt<W: fmt::Write>(&self, f: &mut fmt::Formatter<W>) -> fmt::Result {
         match self {
             Event::LoginAccepted => write!(f, "A"),
@@ -50,6 +52,8 @@ impl fmt::Display for Event {
 }
 
 impl fmt::Display for Report {
+    ghost output = { λ report. Some (report_text report) };
+
     fn fmt<W: fmt::Write>(&self, f: &mut fmt::Formatter<W>) -> fmt::Result {
         let place = self.place;
         match self.outcome {

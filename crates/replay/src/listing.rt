@@ -45,18 +45,13 @@ impl<'a, W: Write> Listing<'a, W> {
     }
 
     // What is left after the last LF, and how much was reported.
-    pub(crate) fn close(self) -> io::Result<()> {
-        let Listing {
-            cutter,
-            packets,
-            faults,
-            out,
-        } = self;
-        let (place, length) = cutter.rest();
+    pub(crate) fn close(&mut self) -> io::Result<()> {
+        let (place, length) = self.cutter.rest();
         if length > 0 {
-            writeln!(out, "rest {place} {length}")?;
+            writeln!(self.out, "rest {place} {length}")?;
         }
-        writeln!(out, "packets {packets} faults {faults}")?;
-        out.flush()
+        let (packets, faults) = (self.packets, self.faults);
+        writeln!(self.out, "packets {packets} faults {faults}")?;
+        self.out.flush()
     }
 }
