@@ -1,11 +1,11 @@
 -- The digits that a list begins with.
-use Rattle.std.proofs.Common.{cond, mul_assoc, take, mul-le-mul_left, ◌≡◌, ℕ, zero, suc, ◌+◌, ◌*◌, ◌^◌, ◌<◌, ◌≤◌, true, List, [], ◌∷◌, ◌++◌, length, get_or, drop, replicate, sym, refl, ap, ◌∙◌, subst, mul-le-mul_right, pow-suc, add-one, arith, pow-add}
+use Rattle.std.proofs.Common.{cond, mul_assoc, take, mul-le-mul_left, ◌≡◌, ℕ, zero, suc, ◌+◌, ◌*◌, ◌^◌, ◌<◌, ◌≤◌, true, false, List, [], ◌∷◌, ◌++◌, length, get_or, drop, replicate, sym, refl, ap, ◌∙◌, subst, mul-le-mul_right, pow-suc, add-one, arith, pow-add}
 use native.Mathlib.Nat.{pow-le-pow_right}
 use Rattle.std.specs.List.{AllByRecursion, prefix_len, take_while}
 use Rattle.std.specs.Char.{is_ascii_digit}
-use Rattle.std.proofs.lemmas.Bool.{cond-true, cond_both}
+use Rattle.std.proofs.lemmas.Bool.{cond-true, cond-false, cond_both}
 use Rattle.std.proofs.lemmas.Bool.Decides.{nat_tests}
-use Rattle.std.proofs.lemmas.List.{drop_more}
+use Rattle.std.proofs.lemmas.List.{at_drop_more, at_drop_all, drop_more}
 use Rattle.std.proofs.lemmas.List.Recursion.{same_from_clauses}
 use Rattle.std.proofs.lemmas.List.Sums.{take_while-cons}
 use Rattle.digits.specs.Bytes.{Digit, Space}
@@ -16,6 +16,15 @@ digit_test c h = grind (arith, nat_tests)
 
 pub digit_from_test : (c : ℕ) → is_ascii_digit c ≡ true → Digit c
 digit_from_test c h = grind (arith, nat_tests)
+
+pub front_more : (xs : List ℕ) (i : ℕ) → i < length xs → is_ascii_digit (get_or xs i 0) ≡ true → front (drop i xs) ≡ get_or xs i 0 ∷ front (drop (i + 1) xs)
+front_more xs i l h = at_drop_more front xs i 0 l ∙ cond-true _ _ _ h
+
+pub front_stop : (xs : List ℕ) (i : ℕ) → i < length xs → is_ascii_digit (get_or xs i 0) ≡ false → front (drop i xs) ≡ []
+front_stop xs i l h = at_drop_more front xs i 0 l ∙ cond-false _ _ _ h
+
+pub front_end : (xs : List ℕ) (i : ℕ) → length xs ≤ i → front (drop i xs) ≡ []
+front_end xs i l = at_drop_all front xs i l
 
 pub front_prefix : (xs : List ℕ) → take (prefix_len is_ascii_digit xs) xs ≡ front xs
 front_prefix xs = same_from_clauses (take_while is_ascii_digit) front (λ c cs. cond (is_ascii_digit c) (c ∷ cs) []) refl (take_while-cons is_ascii_digit) (λ c cs. refl) xs

@@ -1,9 +1,10 @@
 -- Integers: spaces and then digits to the end.
-use Rattle.std.proofs.Common.{◌≡◌, ℕ, zero, suc, ◌<◌, List, [], ◌∷◌, ◌++◌, length, get_or, take, drop, sym, refl, ap, ◌∙◌, subst, arith}
+use Rattle.std.proofs.Common.{◌≡◌, ℕ, zero, suc, ◌+◌, ◌<◌, ◌≤◌, List, [], ◌∷◌, ◌++◌, length, get_or, take, drop, sym, refl, ap, ◌∙◌, subst, arith}
 use Rattle.std.specs.List.{AllByRecursion}
-use Rattle.std.proofs.lemmas.List.{take_at, take-append-drop, length-append}
+use Rattle.std.proofs.lemmas.List.{take_at, append-nil, take-append-drop, length-drop, length-append}
 use Rattle.digits.specs.Bytes.{Digit, Space}
-use Rattle.digits.specs.Numerals.{read_on, Whole}
+use Rattle.digits.specs.Numerals.{front, read_on, Whole}
+use Rattle.digits.proofs.Fronts.{front-append}
 
 strip : (gap figures : List ℕ) (at : ℕ) → AllByRecursion Space gap → AllByRecursion Digit figures → 0 < length figures → AllByRecursion Space (take at (gap ++ figures)) → (at < length (gap ++ figures) → get_or (gap ++ figures) at 0 ≡ 32 → ⊥) → drop at (gap ++ figures) ≡ figures
 strip [] figures zero g d some t stop = refl
@@ -21,6 +22,12 @@ whole_rest bs at n s stop w =
 pub whole_figures : (bs : List ℕ) (at n : ℕ) → AllByRecursion Space (take at bs) → (at < length bs → get_or bs at 0 ≡ 32 → ⊥) → Whole bs n → (0 < length (drop at bs)) × AllByRecursion Digit (drop at bs)
 whole_figures bs at n s stop w =
     subst (λ l. (0 < length l) × AllByRecursion Digit l) (sym (whole_rest bs at n s stop w)) (w.figures_some, w.figures_digits)
+
+pub whole_ends : (bs : List ℕ) (at n : ℕ) → AllByRecursion Space (take at bs) → (at < length bs → get_or bs at 0 ≡ 32 → ⊥) → at ≤ length bs → Whole bs n → (0 < length (front (drop at bs))) × (at + length (front (drop at bs)) ≡ length bs)
+whole_ends bs at n s stop l w =
+    let f = whole_figures bs at n s stop w in
+    let e : front (drop at bs) ≡ drop at bs = ap front (sym (append-nil (drop at bs))) ∙ front-append (drop at bs) [] f.1 refl in
+    (omega (arith, ap length e, f.0), omega (arith, ap length e, length-drop at bs))
 
 pub whole_made : (bs : List ℕ) (at n : ℕ) → AllByRecursion Space (take at bs) → 0 < length (drop at bs) → AllByRecursion Digit (drop at bs) → n ≡ read_on 0 (drop at bs) → Whole bs n
 whole_made bs at n s some d is =

@@ -1,9 +1,10 @@
 // Decimals of any width and number of places.
 ghost use Rattle.std.specs.Prelude.{◌≡◌, ◌≢◌, ℕ, ◌+◌, ◌*◌, ◌^◌, ◌<◌, ◌≤◌, ◌++◌, List, ◌∷◌, length, take, Decides, MatchOption, slice_index, slice_set};
 ghost use Rattle.std.specs.List.{AllByRecursion};
+ghost use Rattle.std.specs.Option.{ForSome};
 ghost use Rattle.digits.specs.Bytes.{Space};
 ghost use Rattle.digits.specs.Calls.{Only, Puts};
-ghost use Rattle.digits.specs.Numerals.{Decimal, DecimalField, Part, pointed};
+ghost use Rattle.digits.specs.Numerals.{Decimal, DecimalField, Part, pointed, read_on};
 ghost use Rattle.digits.specs.Written.{decimals, written, padded, overwritten};
 
 use crate::room::NoRoom;
@@ -32,15 +33,19 @@ fn some_then_spaces(digits: &[u8], pad: &[u8]) -> bool
     !digits.is_empty() && runs::spaces(pad, 0)
 }
 
-// The digits behind a point, where `s` is a point and digits, or nothing, and then spaces.
-fn find_part(s: &[u8]) -> Option<&[u8]>
-    ensures { MatchOption result ((part : List ℕ) → Part s.now part → ⊥) (λ part. Part s.now part.now) }
+// The digits behind a point, where `s` is a point and digits, or nothing, and then spaces, and the number that they write after those
+// of `n`.
+fn find_part(s: &[u8], n: u64) -> Option<(&[u8], u64)>
+    requires { (n + 1) * 10 ^ length s.now ≤ 10 ^ 18 }
+    ensures part { MatchOption result ((part : List ℕ) → Part s.now part → ⊥) (λ found. Part s.now found.0.now) }
+    ensures number { ForSome result (λ found. found.1 ≡ read_on n found.0.now) }
+    ensures bound { ForSome result (λ found. found.1 < (n + 1) * 10 ^ length found.0.now) }
 {
     let Some(after) = after_point(s) else {
-        return runs::spaces(s, 0).then_some(&s[..0]);
+        return runs::spaces(s, 0).then_some((&s[..0], n));
     };
-    let (part, pad) = runs::cut_digits(after);
-    some_then_spaces(part, pad).then_some(part)
+    let (part, pad, n) = runs::read_digits(after, n);
+    some_then_spaces(part, pad).then_some((part, n))
 }
 
 // Whether there are digits before the point, and no more than the places behind it.
@@ -55,12 +60,11 @@ fn count(s: &[u8], places: usize) -> Option<u64>
     requires { length s.now + places ≤ 18 }
     ensures { Only (Decimal places s.now) result }
 {
-    let (whole, rest) = runs::cut_digits(s);
-    let part = find_part(rest)?;
+    let (whole, rest, n) = runs::read_digits(s, 0);
+    let (part, n) = find_part(rest, n)?;
     if !some_and_few(whole, part, places) {
         return None;
     }
-    let n = runs::number(runs::number(0, whole), part);
     Some(scaled(n, places - part.len()))
 }
 

@@ -8,15 +8,33 @@ use crate::room::NoRoom;
 use crate::texts::IntegerText;
 use crate::{bytes, runs};
 
+// Whether there are digits, and nothing behind them.
+fn some_to_end(digits: &[u8], rest: &[u8]) -> bool
+    ensures { Decides result ((0 < length digits.now) × (length rest.now ≡ 0)) }
+{
+    !digits.is_empty() && rest.is_empty()
+}
+
+// The number that `s` holds as spaces and then digits, or none if it holds none.
+fn value(s: &[u8]) -> Option<u64>
+    requires { length s.now ≤ 18 }
+    ensures { Only (λ n. Whole s.now n × (n < 10 ^ length s.now)) result }
+{
+    let (digits, rest, n) = runs::read_digits(&s[runs::count_spaces(s)..], 0);
+    if !some_to_end(digits, rest) {
+        return None;
+    }
+    Some(n)
+}
+
 // The number that the bytes are, at most 18, as spaces and then digits, or none if they are none.
 pub fn read_integer(s: &[u8]) -> Option<u64>
     ensures { Only (λ n. (length s.now ≤ 18) × Whole s.now n × (n < 10 ^ length s.now)) result }
 {
-    let figures = &s[runs::count_spaces(s)..];
-    if s.len() > 18 || !runs::are_digits(figures) {
+    if s.len() > 18 {
         return None;
     }
-    Some(runs::number(0, figures))
+    value(s)
 }
 
 // Fills `out` with the digits of `n` at its end, and spaces before them.

@@ -1,34 +1,11 @@
 // Runs of digits and of spaces.
 ghost use Rattle.std.specs.Prelude.{◌≡◌, ◌+◌, ◌-◌, ◌*◌, ◌^◌, ◌<◌, ◌≤◌, ◌++◌, length, take, drop, replicate, decimal as figures, Decides, slice_index, slice_set};
-ghost use Rattle.std.specs.List.{AllByRecursion, prefix_len};
-ghost use Rattle.std.specs.Char.{is_ascii_digit};
+ghost use Rattle.std.specs.List.{AllByRecursion};
 ghost use Rattle.digits.specs.Bytes.{Digit, Space};
 ghost use Rattle.digits.specs.Numerals.{front, read_on};
 ghost use Rattle.digits.specs.Written.{overwritten};
 
 use crate::bytes;
-
-// How many digits `s` begins with.
-fn count_digits(s: &[u8]) -> usize
-    ensures { result ≡ prefix_len is_ascii_digit s.now }
-{
-    s.iter().take_while(|b| b.is_ascii_digit()).count()
-}
-
-// `s` cut behind the digits that it begins with.
-pub(crate) fn cut_digits(s: &[u8]) -> (&[u8], &[u8])
-    ensures digits { result.0.now ≡ front s.now }
-    ensures whole { s.now ≡ result.0.now ++ result.1.now }
-{
-    s.split_at(count_digits(s))
-}
-
-// Whether there is a byte, and each is a digit.
-pub(crate) fn are_digits(s: &[u8]) -> bool
-    ensures { Decides result ((0 < length s.now) × AllByRecursion Digit s.now) }
-{
-    !s.is_empty() && s.iter().all(|b| b.is_ascii_digit())
-}
 
 // One digit more after those of `n`.
 fn append_digit(n: u64, digit: u8) -> u64
@@ -38,18 +15,22 @@ fn append_digit(n: u64, digit: u8) -> u64
     n * 10 + (digit - b'0') as u64
 }
 
-// The number that `digits` write after those of `n`.
-pub(crate) fn number(n: u64, digits: &[u8]) -> u64
-    requires digits { AllByRecursion Digit digits.now }
-    requires room { (n + 1) * 10 ^ length digits.now ≤ 10 ^ 18 }
-    ensures number { result ≡ read_on n digits.now }
-    ensures bound { result < (n + 1) * 10 ^ length digits.now }
+// The digits that `s` begins with, what stands behind them, and the number that the digits write after those of `n`.
+pub(crate) fn read_digits(s: &[u8], n: u64) -> (&[u8], &[u8], u64)
+    requires { (n + 1) * 10 ^ length s.now ≤ 10 ^ 18 }
+    ensures digits { result.0.now ≡ front s.now }
+    ensures whole { s.now ≡ result.0.now ++ result.1.now }
+    ensures number { result.2 ≡ read_on n result.0.now }
+    ensures bound { result.2 < (n + 1) * 10 ^ length result.0.now }
 {
     let mut n = n;
-    for digit in digits {
+    for (count, digit) in s.iter().enumerate() {
+        if !digit.is_ascii_digit() {
+            return (&s[..count], &s[count..], n);
+        }
         n = append_digit(n, *digit);
     }
-    n
+    (s, &s[s.len()..], n)
 }
 
 // How many spaces `s` begins with.
@@ -61,11 +42,18 @@ pub(crate) fn count_spaces(s: &[u8]) -> usize
     s.iter().take_while(|b| bytes::is_space(**b)).count()
 }
 
+// Whether all bytes are spaces.
+fn all_spaces(s: &[u8]) -> bool
+    ensures { Decides result (AllByRecursion Space s.now) }
+{
+    s.iter().all(|b| bytes::is_space(*b))
+}
+
 // Whether all bytes from `from` on are spaces.
 pub fn spaces(s: &[u8], from: usize) -> bool
     ensures { Decides result (AllByRecursion Space (drop from s.now)) }
 {
-    s.iter().skip(from).all(|b| bytes::is_space(*b))
+    all_spaces(&s[from.min(s.len())..])
 }
 
 // Writes the digit `d` at `at`.

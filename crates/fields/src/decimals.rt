@@ -93,7 +93,10 @@ fn count_in<K: DecimalKind>(bytes: &[u8]) -> Option<u64>
         width: K::WIDTH,
         places: K::PLACES,
     };
-    zero_in(bytes, K::WIDTH).or(form.find(bytes))
+    if let Some(zero) = zero_in(bytes, K::WIDTH) {
+        return Some(zero);
+    }
+    form.find(bytes)
 }
 
 // The value whose field the bytes are.
