@@ -48,7 +48,7 @@ pub trait DecimalKind {
 #[derive_where(Eq, Debug)]
 pub struct Decimal<K: DecimalKind> {
     count: u64,
-    #[derive_where(skip(EqHashOrd))]
+    #[derive_where(skip)]
     kind: PhantomData<K>,
     ghost ok: { K.may count ≡ true },
 }

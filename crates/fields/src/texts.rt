@@ -29,7 +29,7 @@ pub trait TextKind<const N: usize> {
 #[derive_where(Eq, PartialOrd, Ord, Debug)]
 pub struct Text<K: TextKind<N>, const N: usize> {
     bytes: [u8; N],
-    #[derive_where(skip(EqHashOrd))]
+    #[derive_where(skip)]
     kind: PhantomData<K>,
     ghost ok: { K.test bytes ≡ true },
 }
