@@ -1,5 +1,8 @@
 // Decimals of a fixed width: prices, amounts and quantities.
-ghost use Rattle.std.specs.Prelude.{◌≡◌, ⊤, ℕ, Bool, ◌≤◌, true, List, replicate, Decides};
+ghost use Rattle.std.specs.Prelude.{◌≡◌, ⊤, ℕ, Bool, ◌≤◌, true, List, replicate, Decides, ◌==◌};
+ghost use Rattle.std.specs.Cmp.Rules.{comparing};
+ghost use Rattle.std.specs.Ordering.{on};
+ghost use Rattle.std.proofs.Common.{rules};
 ghost use Rattle.digits.specs.Calls.{Only};
 ghost use Rattle.fields.specs.Calls.{Found, Makes, Reads, Writes};
 ghost use Rattle.fields.specs.Decimals.{Blank, CountText, KindLaws};
@@ -42,10 +45,10 @@ pub trait DecimalKind {
 
 // A decimal of a kind, counted in units of its last place. No `Model`: in the definitions a price is a value within its range, and
 // a number alone would leave that out of every theorem on orders. So it is for texts and integers.
-#[derive_where(PartialEq, Eq, Debug)]
+#[derive_where(Eq, Debug)]
 pub struct Decimal<K: DecimalKind> {
     count: u64,
-    #[derive_where(skip(EqHashOrd))]
+    #[derive_where(skip)]
     kind: PhantomData<K>,
     ghost ok: { K.may count ≡ true },
 }
@@ -60,6 +63,20 @@ impl<K: DecimalKind> Clone for Decimal<K> {
 
     fn clone(&self) -> Result<Decimal<K>, AllocError> {
         Ok(*self)
+    }
+}
+
+// Written out for `same`: a derived `eq` promises only that the counts are compared.
+impl<K: DecimalKind> PartialEq for Decimal<K> {
+    ghost eq = { on (λ v. v.count) ◌==◌ };
+
+    ghost laws = { Prim.search (comparing, rules) };
+
+    fn eq(&self, other: &Decimal<K>) -> bool
+        ensures value { result ≡ (self.now.count == other.now.count) }
+        ensures same { Decides result (self.now ≡ other.now) }
+    {
+        PartialEq::eq(&self.count, &other.count)
     }
 }
 

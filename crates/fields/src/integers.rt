@@ -1,5 +1,8 @@
 // Integers of at most 18 digits.
-ghost use Rattle.std.specs.Prelude.{◌≡◌, Decides};
+ghost use Rattle.std.specs.Prelude.{◌≡◌, Decides, ◌==◌};
+ghost use Rattle.std.specs.Cmp.Rules.{comparing};
+ghost use Rattle.std.specs.Ordering.{on};
+ghost use Rattle.std.proofs.Common.{rules};
 ghost use Rattle.fields.specs.Calls.{Found, Makes, Reads, Writes};
 ghost use Rattle.fields.specs.Fields.{IntegerField, integer_text};
 ghost use Rattle.fields.specs.Ranges.{IntegerValue};
@@ -8,10 +11,24 @@ use crate::fault::Fault;
 use digits::IntegerText;
 
 // A number of at most `W` digits.
-#[derive(Clone, Copy, PartialEq, Eq, Debug)]
+#[derive(Clone, Copy, Eq, Debug)]
 pub struct Integer<const W: usize> {
     value: u64,
     ghost ok: { IntegerValue W value },
+}
+
+// Written out for `same`, as for decimals: see there.
+impl<const W: usize> PartialEq for Integer<W> {
+    ghost eq = { on (λ v. v.value) ◌==◌ };
+
+    ghost laws = { Prim.search (comparing, rules) };
+
+    fn eq(&self, other: &Integer<W>) -> bool
+        ensures value { result ≡ (self.now.value == other.now.value) }
+        ensures same { Decides result (self.now ≡ other.now) }
+    {
+        PartialEq::eq(&self.value, &other.value)
+    }
 }
 
 // Whether `n` has at most `width` digits.

@@ -2,7 +2,7 @@
 ghost use Rattle.std.specs.Prelude.{◌≡◌, Decides};
 ghost use Rattle.std.specs.Ordering.{nat_cmp};
 ghost use Rattle.std.specs.Cmp.Lexicographic.{slice_cmp};
-ghost use Rattle.fields.specs.Laws.{FieldLaws};
+ghost use Rattle.fields.specs.Laws.{FieldLaws, DecimalCodec, TextCodec};
 
 use crate::decimals::{Decimal, DecimalKind};
 use crate::integers::Integer;
@@ -13,7 +13,17 @@ pub fn fields_hold()
     ensures { FieldLaws }
 {}
 
-// One function for each type: what each promises is proved of that type's own derived comparison.
+// So it is for every kind of decimals, whichever keeps the laws of a kind.
+pub fn decimals_hold<K: DecimalKind>()
+    ensures { DecimalCodec K.DecimalKind }
+{}
+
+// So it is for every kind of texts.
+pub fn texts_hold<K: TextKind<N>, const N: usize>()
+    ensures { TextCodec N K.TextKind }
+{}
+
+// One function for each type: what each promises is proved of that type's own comparison.
 // Two decimals of a kind are equal exactly when they are the same.
 pub fn decimals_compared<K: DecimalKind>()
     ensures { (a b : Decimal K K.DecimalKind) → Decides (⟦<Decimal<K> as PartialEq>⟧.eq a b) (a ≡ b) }

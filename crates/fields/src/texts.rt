@@ -1,5 +1,9 @@
 // Fields that are kept as their bytes: labels, pairs and times of day.
-ghost use Rattle.std.specs.Prelude.{◌≡◌, ⊤, ℕ, Bool, true, List, Decides};
+ghost use Rattle.std.specs.Prelude.{◌≡◌, ⊤, ℕ, Bool, true, List, Decides, ◌==◌};
+ghost use Rattle.std.specs.Cmp.Lexicographic.{pointwise};
+ghost use Rattle.std.specs.Cmp.Rules.{comparing};
+ghost use Rattle.std.specs.Ordering.{on};
+ghost use Rattle.std.proofs.Common.{rules};
 ghost use Rattle.fields.specs.Calls.{Found, Reads, Writes};
 ghost use Rattle.fields.specs.Texts.{Kept, TextLaws};
 
@@ -22,10 +26,10 @@ pub trait TextKind<const N: usize> {
 }
 
 // A text of a kind.
-#[derive_where(PartialEq, Eq, PartialOrd, Ord, Debug)]
+#[derive_where(Eq, PartialOrd, Ord, Debug)]
 pub struct Text<K: TextKind<N>, const N: usize> {
     bytes: [u8; N],
-    #[derive_where(skip(EqHashOrd))]
+    #[derive_where(skip)]
     kind: PhantomData<K>,
     ghost ok: { K.test bytes ≡ true },
 }
@@ -44,6 +48,20 @@ impl<K: TextKind<N>, const N: usize> Clone for Text<K, N> {
             bytes: self.bytes,
             kind: PhantomData,
         })
+    }
+}
+
+// Equal only if all bytes agree. Written out for `same`, as for decimals: see there.
+impl<K: TextKind<N>, const N: usize> PartialEq for Text<K, N> {
+    ghost eq = { on (λ v. v.bytes) (pointwise ◌==◌) };
+
+    ghost laws = { Prim.search (comparing, rules) };
+
+    fn eq(&self, other: &Text<K, N>) -> bool
+        ensures value { result ≡ pointwise ◌==◌ self.now.bytes other.now.bytes }
+        ensures same { Decides result (self.now ≡ other.now) }
+    {
+        PartialEq::eq(&self.bytes, &other.bytes)
     }
 }
 
