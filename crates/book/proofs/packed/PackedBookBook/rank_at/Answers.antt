@@ -1,6 +1,7 @@
-use Rattle.std.proofs.Common.{◌≡◌, ◌<◌, ◌≤◌, true, false, not, length, slice_index_or, vec_items, take, sym, ap, subst, rules, arith}
+use Rattle.std.proofs.Common.{◌≡◌, ℕ, ◌<◌, ◌≤◌, Option, true, false, not, length, slice_index_or, vec_items, take, sym, ap, subst, rules, arith}
 use Rattle.std.specs.List.Sorted.{IsPartitionedBy, IsPartitionPoint}
 use Rattle.std.proofs.lemmas.List.Sorted.{IsPartitionPoint-from_clause}
+use Rattle.std.specs.Bool.{then_some}
 use Rattle.book.specs.Calls.{Finds}
 use Rattle.book.specs.Ladder.{at_level}
 use Rattle.book.specs.Rows.{orders}
@@ -42,5 +43,7 @@ returns g c =
     let split = front_point (λ x. not (row_from c.args.pair c.args.side c.args.price x)) rs n within.0 parted (λ m d. ap not (within.1 m d)) k bound
     (subst (λ z. IsPartitionPoint (λ x. not (row_from c.args.pair c.args.side c.args.price x) ≡ true) (λ x. not (row_from c.args.pair c.args.side c.args.price x) ≡ false) (take n z) k) c.deref-2.ensures.value point) in
     let here = subst (λ z. (k < length z) × (c.in_ok-row.row.now ≡ slice_index_or z k c.in_ok-row.row.now)) c.deref-3.ensures.value (c.in_ok-row.ensures.lookup.3.0, c.in_ok-row.ensures.lookup.1) in
-    subst (λ z. Finds (at_level c.args.pair c.args.side c.args.price) (orders g.T.Terms.given rs b.ladder.formed) z) (sym c.then_some.ensures)
-    (level_told g.T.Terms.given c.args.pair c.args.side c.args.price rs b.ladder.formed sorted k c.in_ok-row.row.now c.is_at_level.result here.0 here.1 c.is_at_level.ensures split)
+    let told : (z : Option ℕ) → z ≡ then_some c.is_at_level.result k → Finds (at_level c.args.pair c.args.side c.args.price) (orders g.T.Terms.given rs b.ladder.formed) z =
+    λ z e. subst (λ y. Finds (at_level c.args.pair c.args.side c.args.price) (orders g.T.Terms.given rs b.ladder.formed) y) (sym e)
+    (level_told g.T.Terms.given c.args.pair c.args.side c.args.price rs b.ladder.formed sorted k c.in_ok-row.row.now c.is_at_level.result here.0 here.1 c.is_at_level.ensures split) in
+    told c.then_some.result (grind arith)
