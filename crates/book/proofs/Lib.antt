@@ -1,3 +1,4 @@
 pub mod Bytes
 pub mod Found
 pub mod Reading
+pub mod Prefix

@@ -1,6 +1,6 @@
 -- What the rows' tests and edits say of the ladder that they stand for. Rows are spoken of by rank alone, so that this
 -- serves any book that keeps its rows in the ladder's order.
-use Rattle.std.specs.Prelude.{◌≡◌, ℕ, zero, suc, ◌<◌, ◌≤◌, Bool, true, false, cond, not, ◌&&◌, ◌||◌, List, [], ◌∷◌, length, set, MatchOption, Some, None, filter, Option, slice_index_or, slice_set}
+use Rattle.std.specs.Prelude.{◌≡◌, ℕ, zero, suc, ◌<◌, ◌≤◌, Bool, true, false, cond, not, ◌&&◌, ◌||◌, List, [], ◌∷◌, length, set, MatchOption, is_some, Some, None, filter, Option, slice_index_or, slice_set}
 use Rattle.std.proofs.Math.Path.{refl, sym, ap, ap₂, subst}
 use Rattle.std.proofs.Common.{◌∙◌, ⊎_elim, arith}
 use denote.Struct.Props.{props}
@@ -19,7 +19,7 @@ use Rattle.book.specs.declared.order.Side.{Side}
 use Rattle.book.specs.declared.order.Order.{Order}
 use Rattle.book.specs.declared.row.Row.{Row}
 use Rattle.book.specs.Orderly.{split, ahead_trans, level_order, level_ahead}
-use Rattle.book.specs.Ladders.{placed_in_order, placed_apart, without_in_order, without_apart, without_none, amended_in_order, amended_apart, amended_none, stands_none_named, none_level, at_rank_past}
+use Rattle.book.specs.Ladders.{placed_in_order, placed_apart, without_in_order, without_apart, without_none, amended_in_order, amended_apart, amended_none, stands_none_named, none_level, at_rank_past, finds_stands}
 use Rattle.book.specs.Lookups.{alone, cleared_in_order, cleared_apart}
 
 pub same_order : {T : Type 0} (a b : Order T) → a.pair ≡ b.pair → a.side ≡ b.side → a.id ≡ b.id → a.price ≡ b.price → a.amount ≡ b.amount → a.terms ≡ b.terms → a ≡ b
@@ -123,6 +123,13 @@ module _ {R : Type 0} where
     pub finds_named : (p : Pair) (i : OrderId) (rs : List (Row R)) (f : all_formed rs ≡ true) (r : Option ℕ) → First (row_named p i) rs r → Finds (named p i) (orders given rs f) r
     unfolding named
     finds_named p i = first_finds (named p i) (row_named p i) (λ r F. refl)
+
+    pub finds_level : (p : Pair) (s : Side) (c : Price) (rs : List (Row R)) (f : all_formed rs ≡ true) (r : Option ℕ) → First (row_at_level p s c) rs r → Finds (at_level p s c) (orders given rs f) r
+    unfolding at_level
+    finds_level p s c = first_finds (at_level p s c) (row_at_level p s c) (λ r F. refl)
+
+    pub found_stands : (p : Pair) (i : OrderId) (rs : List (Row R)) (f : all_formed rs ≡ true) (r : Option ℕ) → First (row_named p i) rs r → stands p i (orders given rs f) ≡ is_some r
+    found_stands p i rs f r h = finds_stands p i (orders given rs f) r (finds_named p i rs f r h)
 
     -- the rank that is found by its order is the first
     first_found : (p : Pair) (i : OrderId) (rs : List (Row R)) (f : all_formed rs ≡ true) (k : ℕ) → apart (orders given rs f) ≡ true → Finds (named p i) (orders given rs f) (Some k) → First (row_named p i) rs (Some k)

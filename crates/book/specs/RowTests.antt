@@ -36,3 +36,7 @@ First test rs (Some k) = (k < length rs) × HoldsAt (λ x. test x ≡ true) rs k
 abbrev pub AheadOf : {R T : Type 0} → Order T → List (Row R) → ℕ → Type 0
 AheadOf o rs k =
     (k ≤ length rs) × AllWithin (λ x. row_ahead x o ≡ true) rs 0 k × (k < length rs → HoldsAt (λ x. row_ahead x o ≡ false) rs k)
+
+-- k rows, from the first, hold all that are in front of this pair, side and price: the next, if there is one, is there or behind
+abbrev pub FrontWithin : {R : Type 0} → Pair → Side → Price → List (Row R) → ℕ → Type 0
+FrontWithin p s c rs k = (k ≤ length rs) × (k < length rs → HoldsAt (λ x. row_from p s c x ≡ true) rs k)

@@ -107,10 +107,9 @@ impl<T: Terms> Book<T> for PackedBook<T> {
     }
 
     fn rank_at(&self, pair: Pair, side: Side, price: Price) -> Option<usize> {
-        let rank = self
-            .rows
-            .partition_point(|row| !row.is_from(&pair, side, price));
-        let row = finder::row_at(&self.rows, rank)?;
+        let end = finder::front_within(&self.rows, &pair, side, price);
+        let rank = self.rows[..end].partition_point(|row| !row.is_from(&pair, side, price));
+        let row = self.rows.get(rank)?;
         row.is_at_level(&pair, side, price).then_some(rank)
     }
 }

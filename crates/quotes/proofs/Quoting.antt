@@ -15,10 +15,10 @@ module _ {T : Type 0} (l : List (Order T)) (p : Pair) (i : OrderId) (c : Price) 
   found : lookup p i l' ≡ Some (repriced c done.0)
   found = ap (lookup p i) done.2 ∙ lookup_repriced p i c done.0 l done.1
 
-  at_its_rank : (k : ℕ) → Finds (named p i) l' (Some k) → Requote l p i c (Ok k) l'
+  pub at_its_rank : (k : ℕ) → Finds (named p i) l' (Some k) → Requote l p i c (Ok k) l'
   at_its_rank k f = (done.0, done.1, done.2, sym (lookup_rank p i l' k apart-still f.0 f.1) ∙ found)
 
-  not_nowhere : Finds (named p i) l' None → ⊥
+  pub not_nowhere : Finds (named p i) l' None → ⊥
   not_nowhere f =
       let none = lookup_none p i l' (finds_stands p i l' None f) in
       let both = sym none ∙ found in
