@@ -1,12 +1,15 @@
--- What holds of all that a snapshot lists: the offsets of its marks ascend, and each order is of the pair listed last before it.
-use Rattle.std.proofs.Common.{◌≡◌, ℕ, zero, suc, ◌+◌, ◌-◌, ◌<◌, ◌≤◌, Bool, true, false, cond, eqb, List, [], ◌∷◌, ◌++◌, length, Some, None, Ok, Err, Option, sym, refl, ap, ◌∙◌, subst, arith, eqb-true}
+-- What holds of all that a snapshot lists: the offsets of its marks ascend, each order is of the pair listed last before it,
+-- and there are as many pairs as their count says.
+use Rattle.std.proofs.Common.{◌≡◌, ℕ, zero, suc, ◌+◌, ◌-◌, ◌<◌, ◌≤◌, Bool, true, false, cond, eqb, List, [], ◌∷◌, ◌++◌, length, Some, None, Ok, Err, Option, sym, refl, ap, ◌∙◌, subst, append_assoc, arith, eqb-true}
 use Rattle.std.specs.List.{AllByRecursion}
 use Rattle.fields.specs.Values.{Pair, Price}
 use Rattle.fields.specs.declared.integers.Integer.{Integer}
+use Rattle.book.specs.declared.order.Order.{Order}
 use Rattle.book.specs.declared.order.Side.{Side}
 use Rattle.book.specs.declared.order.Side.TheVariants.{Bid, Offer}
 use Rattle.readers.specs.Values.{pair_of, label_of, price_of, amount_of, integer_of}
 use Rattle.venue.specs.Form as venue
+use Rattle.message.specs.Reading.{value_at}
 use Rattle.message.specs.declared.fault.MessageFault.{MessageFault}
 use Rattle.message.specs.declared.fault.MessageFault.TheVariants.{Miscounted}
 use Rattle.snapshot.specs.declared.mark.Mark.{Mark}
@@ -14,6 +17,7 @@ use Rattle.snapshot.specs.declared.mark.Mark.TheVariants.{Lists, Puts}
 use Rattle.snapshot.specs.Scanning.{Scan, ◌▸◌, ◌⨟◌, field_at, tail_then, times}
 use Rattle.snapshot.specs.Snapshot.{order_at, level_at, side_at, pair_at, pairs_from, snapshot_of}
 use Rattle.snapshot.specs.Repeats.{place_of}
+use Rattle.snapshot.specs.Listing.{pairs_listed}
 use Rattle.snapshot.proofs.Walks.{no, field_inside, tail_inside}
 
 -- of where a scan begins, what it lists and where it ends
@@ -146,6 +150,9 @@ module _ {T : Type 0} where
   rising_few p [] e h = omega arith
   rising_few p (x ∷ xs) e h = let z = h.0 in let w = rising_few (suc (place_of x)) xs e h.1 in omega arith
 
+  pub record Ascending (ms : List (Mark T)) : Type 0 where
+    pub below : (front back : List (Mark T)) (x : Mark T) → ms ≡ front ++ (x ∷ back) → AllByRecursion (λ (y : Mark T). place_of y < place_of x) front
+
   rising_at : (p e : ℕ) (front back : List (Mark T)) (x : Mark T) → Rising p (front ++ (x ∷ back)) e → p ≤ place_of x
   rising_at p e [] back x h = h.0
   rising_at p e (y ∷ front) back x h = let z = h.0 in let w = rising_at (suc (place_of y)) e front back x h.1 in omega arith
@@ -155,6 +162,9 @@ module _ {T : Type 0} where
   rising_below p e (y ∷ front) back x h =
       let w = rising_at (suc (place_of y)) e front back x h.1 in
       (omega arith, rising_below (suc (place_of y)) e front back x h.1)
+
+  pub rising_ascends : (p : ℕ) (ms : List (Mark T)) (e : ℕ) → Rising p ms e → Ascending ms
+  rising_ascends p ms e h = record { below = λ front back x z. rising_below p e front back x (subst (λ xs. Rising p xs e) z h) }
 
 module _ {T : Type 0} (F : venue.Form T) (m : List ℕ) where
   abbrev Up : ℕ → Scan (List (Mark T)) → Type 0
@@ -200,6 +210,9 @@ module _ {T : Type 0} (F : venue.Form T) (m : List ℕ) where
       let x = snapshot_parts F m ms e h in
       subst (λ n. Rising 11 ms n) x.whole (rising_times (pair_at F m) rising_pair x.count.value 11 ms e x.listed)
 
+  pub marks_ascend : (ms : List (Mark T)) (e : ℕ) → snapshot_of F m ≡ Ok (ms, e) → Ascending ms
+  marks_ascend ms e h = rising_ascends 11 ms (length m) (marks_rise ms e h)
+
   pub few_marks : (ms : List (Mark T)) (e : ℕ) → snapshot_of F m ≡ Ok (ms, e) → length ms + 11 ≤ length m
   few_marks ms e h = rising_few 11 ms (length m) (marks_rise ms e h)
 
@@ -235,6 +248,41 @@ module _ {T : Type 0} where
   under_join c (Lists p d ∷ xs) ys h k = under_join (Some d) xs ys h k
   under_join c (Puts p o ∷ xs) ys h k = (h.0, under_join c xs ys h.1 k)
 
+  -- c is listed in front, and nothing but orders of c stands behind that
+  pub record Headed (front : List (Mark T)) (c : Pair) : Type 0 where
+    pub before : List (Mark T)
+    pub place : ℕ
+    pub between : List (Mark T)
+    pub split : front ≡ before ++ (Lists place c ∷ between)
+    pub own : Own c between
+
+  headed_after : (xs front : List (Mark T)) (c : Pair) → Headed front c → Headed (xs ++ front) c
+  headed_after xs front c h = record {
+    before = xs ++ h.before;
+    place = h.place;
+    between = h.between;
+    split = ap (λ ys. xs ++ ys) h.split ∙ sym (append_assoc xs h.before (Lists h.place c ∷ h.between));
+    own = h.own;
+  }
+
+  -- seen stands between the listing of d and front
+  headed_since : (d : Pair) (q : ℕ) (seen front back : List (Mark T)) (p : ℕ) (o : Order T) → Own d seen → Under (Some d) (front ++ (Puts p o ∷ back)) → Headed (Lists q d ∷ (seen ++ front)) o.pair
+  headed_since d q seen [] back p o h k =
+      let z = k.0 in
+      let same : d ≡ o.pair = cc in
+      subst (λ c. Headed (Lists q d ∷ (seen ++ [])) c) same (record { before = []; place = q; between = seen ++ []; split = refl; own = own_join d seen [] h tt })
+  headed_since d q seen (Lists r c ∷ front) back p o h k = headed_after (Lists q d ∷ seen) (Lists r c ∷ front) o.pair (headed_since c r [] front back p o tt k)
+  headed_since d q seen (Puts r x ∷ front) back p o h k =
+      let z = k.0 in
+      let same : x.pair ≡ d = cc in
+      subst (λ ys. Headed (Lists q d ∷ ys) o.pair) (append_assoc seen (Puts r x ∷ []) front)
+      (headed_since d q (seen ++ (Puts r x ∷ [])) front back p o (own_join d seen (Puts r x ∷ []) h (same, tt)) k.1)
+
+  pub under_headed : (front back : List (Mark T)) (p : ℕ) (o : Order T) → Under None (front ++ (Puts p o ∷ back)) → Headed front o.pair
+  under_headed [] back p o k = nowhere k.0
+  under_headed (Lists q d ∷ front) back p o k = headed_since d q [] front back p o tt k
+  under_headed (Puts q x ∷ front) back p o k = nowhere k.0
+
   -- ms begins with a pair and its orders, and goes on with rest
   pub record Block (ms rest : List (Mark T)) : Type 0 where
     pub place : ℕ
@@ -253,6 +301,17 @@ module _ {T : Type 0} where
   blocks_under (suc n) ms h c =
       let b = h.1 in
       subst (λ xs. Under c xs) (sym b.split) (under_join (Some b.pair) b.orders h.0 (own_under b.pair b.orders b.own) (blocks_under n h.0 h.2))
+
+  own_lists : (c : Pair) (xs ys : List (Mark T)) → Own c xs → pairs_listed (xs ++ ys) ≡ pairs_listed ys
+  own_lists c [] ys h = refl
+  own_lists c (Lists p d ∷ xs) ys h = absurd h
+  own_lists c (Puts p o ∷ xs) ys h = own_lists c xs ys h.1
+
+  pub blocks_count : (n : ℕ) (ms : List (Mark T)) → Blocks n ms → length (pairs_listed ms) ≡ n
+  blocks_count zero ms h = ap (λ xs. length (pairs_listed xs)) h
+  blocks_count (suc n) ms h =
+      let b = h.1 in
+      ap (λ xs. length (pairs_listed xs)) b.split ∙ ap (λ cs. suc (length cs)) (own_lists b.pair b.orders h.0 b.own) ∙ ap suc (blocks_count n h.0 h.2)
 
 module _ {T : Type 0} (F : venue.Form T) (m : List ℕ) where
   -- a block before any rest
@@ -299,3 +358,57 @@ module _ {T : Type 0} (F : venue.Form T) (m : List ℕ) where
   -- a snapshot is as many blocks as its count of pairs says
   pub marks_in_blocks : (ms : List (Mark T)) (e : ℕ) (x : Parts F m ms e) → Blocks x.count.value ms
   marks_in_blocks ms e x = each_times Whole (λ n p ms e. Blocks n ms) (λ p. refl) (λ n p q e xs ys h k. (ys, h ys, k)) (pair_at F m) whole_pair x.count.value 11 ms e x.listed
+
+  -- an order is of the pair that is listed last before it
+  pub orders_headed : (ms : List (Mark T)) (e : ℕ) → snapshot_of F m ≡ Ok (ms, e) → (front back : List (Mark T)) (p : ℕ) (o : Order T) → ms ≡ front ++ (Puts p o ∷ back) → Headed front o.pair
+  orders_headed ms e h front back p o z =
+      let x = snapshot_parts F m ms e h in
+      under_headed front back p o (subst (λ xs. Under None xs) z (blocks_under x.count.value ms (marks_in_blocks ms e x) None))
+
+  -- as many pairs are listed as the count says
+  pub pairs_counted : (ms : List (Mark T)) (e : ℕ) (x : Parts F m ms e) → length (pairs_listed ms) ≡ x.count.value
+  pairs_counted ms e x = blocks_count x.count.value ms (marks_in_blocks ms e x)
+
+-- At its offset the message has the pair or the id of a mark.
+module _ {T : Type 0} (m : List ℕ) where
+  abbrev pub Stands : Mark T → Type 0
+  Stands (Lists p c) = value_at m 7 pair_of p ≡ Ok c
+  Stands (Puts p o) = value_at m 15 (label_of 15) p ≡ Ok o.id
+
+  abbrev Standing : Spanned (Mark T)
+  Standing p ms e = AllByRecursion Stands ms
+
+  standing_join : Joins Standing Standing Standing
+  standing_join p q e [] ys h k = k
+  standing_join p q e (x ∷ xs) ys h k = (h.0, standing_join p q e xs ys h.1 k)
+
+module _ {T : Type 0} (F : venue.Form T) (m : List ℕ) where
+  abbrev On : Spanned (Mark T)
+  On = Standing m
+
+  on_times : (f : ℕ → Scan (List (Mark T))) → ((q : ℕ) → Each On q (f q)) → (n p : ℕ) → Each On p (times f n p)
+  on_times = each_times On (λ _. On) (λ p. tt) (λ _. standing_join m)
+
+  on_order : (c : Pair) (s : Side) (v : Price) (p : ℕ) → Each On p (order_at F m c s v p)
+  unfolding order_at
+  on_order c s v p = each_field On p (field_at m 16 amount_of p) _ (λ a q h. each_by On p F.order_tail_first _ _
+      (each_field On p (tail_then F m q) _ (λ t r k. each_field On p (field_at m 15 (label_of 15) r) _ (λ i e l. each_ok On p _ e ((field_inside m 15 (label_of 15) r l).value, tt))))
+      (each_field On p (field_at m 15 (label_of 15) q) _ (λ i r k. each_field On p (tail_then F m r) _ (λ t e l. each_ok On p _ e ((field_inside m 15 (label_of 15) q k).value, tt)))))
+
+  on_level : (c : Pair) (s : Side) (p : ℕ) → Each On p (level_at F m c s p)
+  unfolding level_at
+  on_level c s p = each_field On p (field_at m 10 price_of p) _ (λ v q h. each_field On p (field_at m 4 (integer_of 4) q) _ (λ k r j.
+      each_unless On p (eqb k.value 0) (Miscounted q) _ (on_times (order_at F m c s v) (on_order c s v) k.value r)))
+
+  on_side : (c : Pair) (s : Side) (p : ℕ) → Each On p (side_at F m c s p)
+  unfolding side_at
+  on_side c s p = each_field On p (field_at m 4 (integer_of 4) p) _ (λ k q h. on_times (level_at F m c s) (on_level c s) k.value q)
+
+  on_pair : (p : ℕ) → Each On p (pair_at F m p)
+  unfolding pair_at
+  on_pair p = each_field On p (field_at m 7 pair_of p) _ (λ c q h. each_then On On On (standing_join m) p (Ok (Lists p c ∷ [], q)) _
+      (each_ok On p (Lists p c ∷ []) q ((field_inside m 7 pair_of p h).value, tt))
+      (λ u. each_then On On On (standing_join m) u (side_at F m c Bid u) _ (on_side c Bid u) (λ r. on_side c Offer r)))
+
+  pub marks_stand : (ms : List (Mark T)) (e : ℕ) → snapshot_of F m ≡ Ok (ms, e) → AllByRecursion (Stands m) ms
+  marks_stand ms e h = let x = snapshot_parts F m ms e h in on_times (pair_at F m) on_pair x.count.value 11 ms e x.listed
