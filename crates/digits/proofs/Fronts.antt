@@ -5,7 +5,7 @@ use Rattle.std.specs.List.{AllByRecursion, prefix_len, take_while}
 use Rattle.std.specs.Char.{is_ascii_digit}
 use Rattle.std.proofs.lemmas.Bool.{cond-true, cond-false, cond_both}
 use Rattle.std.proofs.lemmas.Bool.Decides.{nat_tests}
-use Rattle.std.proofs.lemmas.List.{at_drop_more, at_drop_all, drop_more}
+use Rattle.std.proofs.lemmas.List.{at_drop_more, at_drop_all, drop_more, drop_all}
 use Rattle.std.proofs.lemmas.List.Recursion.{same_from_clauses}
 use Rattle.std.proofs.lemmas.List.Sums.{take_while-cons}
 use Rattle.digits.specs.Bytes.{Digit, Space}
@@ -52,8 +52,14 @@ digit_room m k j n d h l r s =
     let u : m * 10 ^ (k + 1) ≤ m * 10 ^ j = mul-le-mul_left m (pow10_le (k + 1) j (omega arith)) in
     (omega arith, omega arith)
 
+pub spaces_more : (xs : List ℕ) (i : ℕ) → i < length xs → get_or xs i 0 ≡ 32 → AllByRecursion Space (drop (i + 1) xs) → AllByRecursion Space (drop i xs)
+spaces_more xs i l h t = subst (AllByRecursion Space) (sym (drop_more xs i 0 l)) (h, t)
+
 pub spaces_rest : (xs : List ℕ) (i : ℕ) → i < length xs → AllByRecursion Space (drop i xs) → (get_or xs i 0 ≡ 32) × AllByRecursion Space (drop (i + 1) xs)
 spaces_rest xs i l h = subst (AllByRecursion Space) (drop_more xs i 0 l) h
+
+pub spaces_end : (xs : List ℕ) (i : ℕ) → length xs ≤ i → AllByRecursion Space (drop i xs)
+spaces_end xs i l = subst (AllByRecursion Space) (sym (drop_all i xs l)) tt
 
 -- numbers of i digits, with j more behind them
 module _ (n i j : ℕ) (h : n < 10 ^ i) (k : i + j ≤ 18) where

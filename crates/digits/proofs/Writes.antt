@@ -1,5 +1,5 @@
 -- What the writer's steps give.
-use Rattle.std.proofs.Common.{Option, Some, None, IfNone, IfSome, div-le_self, ◌*◌, le-div_iff_mul-le, add-one, ◌≡◌, ℕ, zero, suc, ◌+◌, ◌-◌, ◌/◌, ◌%◌, ◌^◌, ◌<◌, ◌≤◌, false, eqb, List, [], ◌∷◌, ◌++◌, length, take, drop, set, replicate, decimal, sym, refl, ap, ◌∙◌, mod-lt, pow-suc, arith}
+use Rattle.std.proofs.Common.{Option, Some, None, IfNone, IfSome, div-le_self, ◌*◌, le-div_iff_mul-le, add-one, ◌≡◌, ℕ, zero, suc, ◌+◌, ◌-◌, ◌/◌, ◌%◌, ◌^◌, ◌<◌, ◌≤◌, false, eqb, List, [], ◌∷◌, ◌++◌, length, take, drop, set, replicate, decimal, sym, refl, ap, ◌∙◌, subst, mod-lt, div-lt_iff_lt-mul, pow-suc, arith}
 use borrow.Rule.Slice.PartMut.{put_mid}
 use Rattle.std.specs.Option.{unwrap_or}
 use Rattle.std.proofs.lemmas.Bool.{cond-false, ne_eqb}
@@ -58,6 +58,24 @@ decimals_step (suc k) r h p =
     let e : suc k - 1 ≡ k = omega arith in
     let n : eqb r 0 ≡ false = ne_eqb r 0 (λ z. omega arith) in
     cond-false _ _ _ n ∙ ap (λ j. (48 + r / 10 ^ j) ∷ decimals j (r % 10 ^ j)) (sym e)
+
+-- its digit
+pub top_digit : (k r : ℕ) → 0 < k → r < 10 ^ k → r / 10 ^ (k - 1) < 10
+top_digit zero r h l = absurd (omega arith)
+top_digit (suc k) r h l =
+    let e : suc k - 1 ≡ k = omega arith in
+    subst (λ j. r / 10 ^ j < 10) (sym e) ((div-lt_iff_lt-mul (pow10_pos k)).1 (omega (arith, pow-suc 10 k)))
+
+-- one turn of the writer of decimals, u being the unit of the next place
+module _ (k r u : ℕ) (e : u ≡ 10 ^ (k - 1)) (h : 0 < k) where
+  pub unit_pos : 0 < u
+  unit_pos = omega (arith, pow10_pos (k - 1))
+
+  pub digit_small : r < 10 ^ k → r / u < 10
+  digit_small l = omega (arith, ap (λ x. r / x) e, top_digit k r h l)
+
+  pub rest_small : r % u < 10 ^ (k - 1)
+  rest_small = omega (arith, mod-lt r unit_pos)
 
 -- the same, u being the unit of the next place
 pub step_at : (k r u : ℕ) → u ≡ 10 ^ (k - 1) → 0 < k → 0 < r → decimals k r ≡ (48 + r / u) ∷ decimals (k - 1) (r % u)

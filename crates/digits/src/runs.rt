@@ -46,7 +46,12 @@ pub(crate) fn count_spaces(s: &[u8]) -> usize
 fn all_spaces(s: &[u8]) -> bool
     ensures { Decides result (AllByRecursion Space s.now) }
 {
-    s.iter().all(|b| bytes::is_space(*b))
+    for b in s {
+        if !bytes::is_space(*b) {
+            return false;
+        }
+    }
+    true
 }
 
 // Whether all bytes from `from` on are spaces.

@@ -1,5 +1,5 @@
-use Rattle.std.proofs.Common.{suc, ◌+◌, ◌*◌, ◌^◌, ◌<◌, ◌≤◌, length, ap, arith, mul-le-mul_left}
-use Rattle.digits.specs.Numerals.{Part, read_on}
+use Rattle.std.proofs.Common.{◌+◌, length, ap, arith, mul-le-mul_left}
+use Rattle.digits.specs.Numerals.{Part}
 use Rattle.digits.proofs.Fronts.{pow10_le}
 use Rattle.digits.proofs.Onlys.{then_found}
 use Rattle.digits.proofs.Shapes.{part_found, part_only}
