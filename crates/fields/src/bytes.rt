@@ -17,11 +17,16 @@ pub(crate) fn is_printable(b: u8) -> bool
     (0x20..=0x7e).contains(&b)
 }
 
-// Whether all bytes are printable.
+// Whether all bytes are printable. A `for`, and no `all`, which takes half as long again.
 pub(crate) fn all_printable(s: &[u8]) -> bool
     ensures { Decides result ((i : ℕ) → i < length s.now → Printable (slice_index s.now i)) }
 {
-    s.iter().all(|b| is_printable(*b))
+    for b in s {
+        if !is_printable(*b) {
+            return false;
+        }
+    }
+    true
 }
 
 // Writes a text at `at`: `digits::put`, with its fault lifted into a field's.

@@ -1,8 +1,9 @@
 // Fields that are kept as their bytes: labels, pairs and times of day.
 ghost use Rattle.std.specs.Prelude.{◌≡◌, ⊤, ℕ, Bool, true, List, Decides, ◌==◌};
-ghost use Rattle.std.specs.Cmp.Lexicographic.{pointwise};
+ghost use Rattle.std.specs.Cmp.{partial_order_from_own_ties};
+ghost use Rattle.std.specs.Cmp.Lexicographic.{pointwise, slice_cmp};
 ghost use Rattle.std.specs.Cmp.Rules.{comparing};
-ghost use Rattle.std.specs.Ordering.{on};
+ghost use Rattle.std.specs.Ordering.{as_partial_cmp, nat_cmp, on};
 ghost use Rattle.std.proofs.Common.{rules};
 ghost use Rattle.fields.specs.Calls.{Found, Reads, Writes};
 ghost use Rattle.fields.specs.Texts.{Kept, TextLaws};
@@ -10,6 +11,7 @@ ghost use Rattle.fields.specs.Texts.{Kept, TextLaws};
 use crate::bytes;
 use crate::fault::Fault;
 use std::alloc::AllocError;
+use std::cmp::Ordering;
 use std::marker::PhantomData;
 
 // A kind of texts of `N` bytes: which bytes are such a text.
@@ -26,7 +28,7 @@ pub trait TextKind<const N: usize> {
 }
 
 // A text of a kind.
-#[derive_where(Eq, PartialOrd, Ord, Debug)]
+#[derive_where(Eq, Debug)]
 pub struct Text<K: TextKind<N>, const N: usize> {
     bytes: [u8; N],
     #[derive_where(skip)]
@@ -62,6 +64,31 @@ impl<K: TextKind<N>, const N: usize> PartialEq for Text<K, N> {
         ensures same { Decides result (self.now ≡ other.now) }
     {
         PartialEq::eq(&self.bytes, &other.bytes)
+    }
+}
+
+impl<K: TextKind<N>, const N: usize> PartialOrd for Text<K, N> {
+    ghost partial_cmp = { as_partial_cmp (on (λ v. v.bytes) (slice_cmp nat_cmp)) };
+
+    ghost laws = { partial_order_from_own_ties (Prim.search (comparing, rules)) (Prim.search (comparing, rules)) };
+
+    fn partial_cmp(&self, other: &Text<K, N>) -> Option<Ordering> {
+        Some(self.cmp(other))
+    }
+}
+
+// In byte order: the first byte that differs decides. Written out, since a derived order takes twice as long.
+impl<K: TextKind<N>, const N: usize> Ord for Text<K, N> {
+    ghost cmp = { on (λ v. v.bytes) (slice_cmp nat_cmp) };
+
+    ghost total = { Prim.search (comparing, rules) };
+
+    ghost matches_partial_cmp = { Prim.search (comparing, rules) };
+
+    ghost matches_eq = { Prim.search (comparing, rules) };
+
+    fn cmp(&self, other: &Text<K, N>) -> Ordering {
+        Ord::cmp(&self.bytes, &other.bytes)
     }
 }
 
