@@ -14,7 +14,7 @@ pub(crate) fn is_letter(b: u8) -> bool
 pub(crate) fn is_printable(b: u8) -> bool
     ensures { Decides result (Printable b) }
 {
-    (0x20..=0x7e).contains(&b)
+    matches!(b, 0x20..=0x7e)
 }
 
 // Whether all bytes are printable. A `for`, and no `all`, which takes half as long again.

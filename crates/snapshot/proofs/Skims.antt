@@ -1,5 +1,5 @@
 -- What look-ups in the bytes say of what a scan lists.
-use Rattle.std.proofs.Common.{Bor, None, take, drop, take_all, ◌≡◌, ℕ, zero, suc, ◌+◌, ◌-◌, ◌*◌, ◌<◌, ◌≤◌, Bool, true, false, cond, ◌&&◌, ◌||◌, eqb, ltb, List, [], ◌∷◌, ◌++◌, length, Some, Ok, Err, Decides, Option, Result, sym, refl, ap, ◌∙◌, subst, inl, inr, suc-mul, zero-mul, arith, length-drop, length-take}
+use Rattle.std.proofs.Common.{Bor, None, take, drop, take_all, ◌≡◌, ℕ, zero, suc, ◌+◌, ◌-◌, ◌*◌, ◌^◌, ◌<◌, ◌≤◌, min, Bool, true, false, cond, ◌&&◌, ◌||◌, eqb, ltb, List, [], ◌∷◌, ◌++◌, length, Some, Ok, Err, Decides, Option, Result, sym, refl, ap, ◌∙◌, subst, inl, inr, suc-mul, zero-mul, sub-one, arith, length-drop, length-take}
 use Rattle.std.specs.declared.ops.ControlFlow.{ControlFlow}
 use Rattle.std.specs.declared.ops.ControlFlow.TheVariants.{Continue, Break}
 use Rattle.std.specs.declared.ops.Range.{Range}
@@ -86,6 +86,28 @@ module _ (m : List ℕ) (upto : ℕ) (id : List ℕ) (step : ℕ) where
   -- none from the offset on
   pub strided_past : (n at : ℕ) → upto ≤ at → strided m upto id step n at ≡ false
   strided_past n at h = strided_none n at (λ k l u. absurd (omega arith))
+
+  pub strided_done : (n at : ℕ) → n ≡ 0 → strided m upto id step n at ≡ false
+  unfolding strided
+  strided_done n at h = ap (λ k. strided m upto id step k at) h
+
+  -- one step over the ids
+  module _ (at : ℕ) (r : Bool) (is : r ≡ bytes_eq (field at 15 m) id) where
+    pub strided_here : (n : ℕ) → 0 < n → at < upto → r ≡ true → strided m upto id step n at ≡ true
+    unfolding strided
+    strided_here zero h l e = absurd (omega arith)
+    strided_here (suc n) h l e = ap (λ b. (b && bytes_eq (field at 15 m) id) || strided m upto id step n (at + step)) (lt-ltb at upto l) ∙ ap (λ b. b || strided m upto id step n (at + step)) (sym is ∙ e)
+
+    further : (n next : ℕ) → upto ≤ 2 ^ 64 - 1 → next ≡ min (at + step) (2 ^ 64 - 1) → strided m upto id step n (at + step) ≡ strided m upto id step n next
+    further n next u h = elim (cases_lt (at + step) (2 ^ 64)) [
+      | inl l ↦ let e : at + step ≡ next = omega arith in ap (λ k. strided m upto id step n k) e
+      | inr l ↦ strided_past n (at + step) (omega arith) ∙ sym (strided_past n next (omega arith))
+    ]
+
+    pub strided_next : (n next : ℕ) → 0 < n → r ≡ false → upto ≤ 2 ^ 64 - 1 → next ≡ min (at + step) (2 ^ 64 - 1) → strided m upto id step n at ≡ strided m upto id step (n - 1) next
+    unfolding strided
+    strided_next zero next h e u k = absurd (omega arith)
+    strided_next (suc n) next h e u k = ap (λ b. (ltb at upto && b) || strided m upto id step n (at + step)) (sym is ∙ e) ∙ ap (λ b. b || strided m upto id step n (at + step)) (and-false (ltb at upto)) ∙ further n next u k ∙ ap (λ j. strided m upto id step j next) (sym (sub-one (suc n)))
 
   -- What a chain over the ids answers: each that it gave, of len, stands in its place before the offset.
   module _ (n at len : ℕ) (item : ℕ → Option ℕ) (places : (k : ℕ) → IfSome (item k) (λ x. (x ≡ at + k * step) × (x < upto))) (short : len ≤ n) {Y N : ℕ → Type 0} (yes : (x : ℕ) → Y x → bytes_eq (field x 15 m) id ≡ true) (no : (x : ℕ) → N x → bytes_eq (field x 15 m) id ≡ false) where

@@ -146,15 +146,22 @@ impl Sought<'_> {
         same_at(self.m, at, id)
     }
 
-    // Whether one of `n` ids from `at`, each `step` bytes after the last, stands before the offset and is this one.
-    fn met(&self, at: usize, n: usize, step: usize) -> bool
-        requires { 0 < step }
-        ensures { result ≡ strided self.now.m.now self.now.upto self.now.id.now step n at }
+    // Whether one of `n` ids from `from`, each `step` bytes after the last, stands before the offset and is this one. A loop: a chain
+    // over the offsets (`step_by`, `take`, `any`) took twice the time.
+    fn met(&self, from: usize, n: usize, step: usize) -> bool
+        ensures { result ≡ strided self.now.m.now self.now.upto self.now.id.now step n from }
     {
-        (at..self.upto)
-            .step_by(step)
-            .take(n)
-            .any(|at| self.is_at(at))
+        let mut at = from;
+        for _ in 0..n {
+            if at >= self.upto {
+                return false;
+            }
+            if self.is_at(at) {
+                return true;
+            }
+            at = at.saturating_add(step);
+        }
+        false
     }
 
     // Looks through the level at `at`: whether the id was met, or where the level ends.
