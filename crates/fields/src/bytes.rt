@@ -1,5 +1,5 @@
 // Tests of single bytes, and bytes put into a buffer.
-ghost use Rattle.std.specs.Prelude.{ℕ, ◌<◌, length, Decides, slice_index};
+ghost use Rattle.std.specs.Prelude.{◌≡◌, ℕ, ◌<◌, length, Decides, slice_index};
 ghost use Rattle.fields.specs.Bytes.{Letter, Printable};
 ghost use Rattle.fields.specs.Calls.{Writes};
 
@@ -27,6 +27,13 @@ pub(crate) fn all_printable(s: &[u8]) -> bool
         }
     }
     true
+}
+
+// Whether two texts have the same bytes. Of slices, which `==` compares faster than arrays.
+pub(crate) fn same_bytes(a: &[u8], b: &[u8]) -> bool
+    ensures { Decides result (a.now ≡ b.now) }
+{
+    a == b
 }
 
 // Writes a text at `at`: `digits::put`, with its fault lifted into a field's.

@@ -63,7 +63,7 @@ impl<K: TextKind<N>, const N: usize> PartialEq for Text<K, N> {
         ensures value { result ≡ pointwise ◌==◌ self.now.bytes other.now.bytes }
         ensures same { Decides result (self.now ≡ other.now) }
     {
-        PartialEq::eq(&self.bytes, &other.bytes)
+        bytes::same_bytes(&self.bytes, &other.bytes)
     }
 }
 
