@@ -6,8 +6,7 @@ ghost use Rattle.fields.specs.Scripts.{time_laws};
 
 use crate::texts::{Text, TextKind};
 
-// Whether all bytes are digits. The test in `digits` is another: it asks for one digit at least, and its clause has no index,
-// which the form of a time needs.
+// Whether all bytes are digits. `digits` reads them and has no such test; its clauses have no index, which the form of a time needs.
 fn all_digits(s: &[u8]) -> bool
     ensures { Decides result ((i : ℕ) → i < length s.now → Digit (slice_index s.now i)) }
 {
