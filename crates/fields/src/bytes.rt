@@ -17,18 +17,6 @@ pub(crate) fn is_printable(b: u8) -> bool
     matches!(b, 0x20..=0x7e)
 }
 
-// Whether all bytes are printable. A `for`, and no `all`, which takes half as long again.
-pub(crate) fn all_printable(s: &[u8]) -> bool
-    ensures { Decides result ((i : ℕ) → i < length s.now → Printable (slice_index s.now i)) }
-{
-    for b in s {
-        if !is_printable(*b) {
-            return false;
-        }
-    }
-    true
-}
-
 // Whether two texts have the same bytes. Of slices, which `==` compares faster than arrays.
 pub(crate) fn same_bytes(a: &[u8], b: &[u8]) -> bool
     ensures { Decides result (a.now ≡ b.now) }

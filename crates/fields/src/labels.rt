@@ -13,7 +13,12 @@ fn is_label(s: &[u8], n: usize) -> bool
     if s.len() != n || n == 0 || digits::is_space(s[0]) {
         return false;
     }
-    bytes::all_printable(s)
+    for b in s {
+        if !bytes::is_printable(*b) {
+            return false;
+        }
+    }
+    true
 }
 
 // Labels: printable bytes, the first no space.
