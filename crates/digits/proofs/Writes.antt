@@ -88,6 +88,14 @@ pub places_pos : (k r : ℕ) → r < 10 ^ k → 0 < r → 0 < k
 places_pos zero r h p = absurd (omega arith)
 places_pos (suc k) r h p = omega arith
 
+-- the unit of the next place
+pub next_unit : (k u : ℕ) → u ≡ 10 ^ k → 0 < k → u / 10 ≡ 10 ^ (k - 1)
+next_unit zero u e h = absurd (omega arith)
+next_unit (suc k) u e h =
+    let j : suc k - 1 ≡ k = omega arith in
+    let p : 10 ^ suc k ≡ 10 ^ k * 10 = pow-suc 10 k in
+    omega (arith, ap (λ i. 10 ^ i) j)
+
 -- a text written from a place on
 put_end : (at : ℕ) (xs ys : List ℕ) → at ≤ length xs → put_mid at (length xs - at) xs ys ≡ take at xs ++ ys
 put_end at xs ys h =

@@ -80,18 +80,18 @@ impl DecimalForm {
     }
 }
 
-// Writes the decimals of `rest` over the first bytes of `out`. Places and rest stay arguments with their bounds: `DecimalText` keeps
-// the bounds for callers, and both numbers fall at each step here.
-fn put_decimals(out: &mut [u8], places: usize, rest: u64)
-    requires { (length (decimals places rest) ≤ length out.old) × ((rest < 10 ^ places) × (places ≤ 18)) }
+// Writes the decimals of `rest` over the first bytes of `out`, `unit` being that of the place before them. Places, unit and rest
+// stay arguments with their bounds: `DecimalText` keeps the bounds for callers, and each step here has its own.
+fn put_decimals(out: &mut [u8], places: usize, unit: u64, rest: u64)
+    requires { (length (decimals places rest) ≤ length out.old) × ((rest < unit) × (unit ≡ 10 ^ places)) }
     ensures { out.new ≡ overwritten (decimals places rest) out.old }
 {
     if rest == 0 {
         return;
     }
-    let unit = 10u64.pow(places as u32 - 1);
+    let unit = unit / 10;
     runs::put_digit(out, 0, rest / unit);
-    put_decimals(&mut out[1..], places - 1, rest % unit);
+    put_decimals(&mut out[1..], places - 1, unit, rest % unit);
 }
 
 fn put_point(out: &mut [u8])
@@ -101,16 +101,17 @@ fn put_point(out: &mut [u8])
     out[0] = b'.';
 }
 
-// Writes a point and the decimals of `rest` over the first bytes of `out`, or nothing if `rest` is 0.
-fn put_part(out: &mut [u8], places: usize, rest: u64)
-    requires { (length (pointed (decimals places rest)) ≤ length out.old) × ((rest < 10 ^ places) × (places ≤ 18)) }
+// Writes a point and the decimals of `rest` over the first bytes of `out`, or nothing if `rest` is 0; `unit` is that of the place
+// before the point.
+fn put_part(out: &mut [u8], places: usize, unit: u64, rest: u64)
+    requires { (length (pointed (decimals places rest)) ≤ length out.old) × ((rest < unit) × (unit ≡ 10 ^ places)) }
     ensures { out.new ≡ overwritten (pointed (decimals places rest)) out.old }
 {
     if rest == 0 {
         return;
     }
     put_point(out);
-    put_decimals(&mut out[1..], places, rest);
+    put_decimals(&mut out[1..], places, unit, rest);
 }
 
 // Fills `out` with `n` units of the last of the places, and spaces up to its end.
@@ -121,7 +122,7 @@ fn fill(out: &mut [u8], n: u64, places: usize)
     let unit = 10u64.pow(places as u32);
     runs::put_spaces(out);
     let point = runs::put_figures(out, n / unit);
-    put_part(&mut out[point..], places, n % unit);
+    put_part(&mut out[point..], places, unit, n % unit);
 }
 
 impl DecimalText {

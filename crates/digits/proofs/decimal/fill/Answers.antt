@@ -13,7 +13,7 @@ pub put_part-requires : goal.put_part-requires
 put_part-requires c =
     let l = ap length (rest_of c.put_figures-point.result c.put_figures-point.new.out) in
     let d = length-drop c.put_figures-point.result c.put_figures-point.new.out in
-    (omega (arith, length-written c.args.places c.args.n _ c.pow-unit.ensures), (rest_below c.args.places c.args.n _ c.pow-unit.ensures, c.requires.1))
+    (omega (arith, length-written c.args.places c.args.n _ c.pow-unit.ensures), (omega (arith, rest_below c.args.places c.args.n _ c.pow-unit.ensures, c.pow-unit.ensures), c.pow-unit.ensures))
 
 pub returns : goal.returns
 returns c =
